@@ -1,0 +1,4 @@
+pub mod Additive
+pub mod Product
+pub mod Primitive
+pub mod Powers
