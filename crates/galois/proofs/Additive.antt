@@ -1,11 +1,12 @@
 -- Functions that carry sums (`bitXor`) over to sums. Assumes nothing.
 use mathlib.Core.Path.{_≡_, refl, sym, ap, ap₂, _∙_}
 use mathlib.Core.Logic.{_⊎_, inl, inr, ⊎-elim}
-use Prim.Native.Nat.{ℕ, zero, suc, _*_, _/_, _%_, _^_, _<_}
-use native.Mathlib.Nat.{zero-mul, one-mul, add-zero}
+use Prim.Native.Nat.{ℕ, zero, suc, _-_, _*_, _/_, _%_, _^_, _<_, _≤_}
+use native.Mathlib.Nat.{zero-mul, one-mul, add-zero, two-pow-succ}
 use native.Mathlib.Omega.{arith}
-use lib.Bits.{bitXor, xor-assoc, xor-comm, xor-self, xor-zero-r, xor-zero-l, xor-block, xor-shr, xor-mod}
+use lib.Bits.{bitXor, xor-assoc, xor-comm, xor-self, xor-zero-r, xor-zero-l, xor-block, xor-shr, xor-mod, xor-shifted}
 use lib.Dec.{lit<}
+use Rattle.std.proofs.shelf.Tests.{cases-lt}
 use Rattle.galois.specs.Binary.{twice}
 
 pub xor-swap : (a b c d : ℕ) → bitXor (bitXor a b) (bitXor c d) ≡ bitXor (bitXor a c) (bitXor b d)
@@ -68,3 +69,17 @@ twice-additive n p a b =
     ∙ ap (λ z. bitXor (bitXor (a * 2) (b * 2)) (z * p)) (ap (λ z. z % 2) (xor-shr (a * 2) (b * 2) n) ∙ xor-odd (a * 2 / 2 ^ n) (b * 2 / 2 ^ n))
     ∙ ap (bitXor (bitXor (a * 2) (b * 2))) (bit-times (a * 2 / 2 ^ n % 2) (b * 2 / 2 ^ n % 2) p (bit-lt _) (bit-lt _))
     ∙ xor-swap (a * 2) (b * 2) (a * 2 / 2 ^ n % 2 * p) (b * 2 / 2 ^ n % 2 * p)
+
+-- two additive functions that agree on the powers of two below 2^k agree below 2^k
+pub basis : (f g : ℕ → ℕ) → Additive f → Additive g → (k : ℕ) → ((i : ℕ) → i < k → f (2 ^ i) ≡ g (2 ^ i)) → (a : ℕ) → a < 2 ^ k → f a ≡ g a
+basis f g hf hg zero same a h =
+    let z : a ≡ 0 = omega arith in
+    ap f z ∙ additive-zero f hf ∙ sym (ap g z ∙ additive-zero g hg)
+basis f g hf hg (suc k) same a h = go (basis f g hf hg k (λ i l. same i (omega arith))) (cases-lt a (2 ^ k))
+  where
+    go : ((b : ℕ) → b < 2 ^ k → f b ≡ g b) → (a < 2 ^ k) ⊎ (2 ^ k ≤ a) → f a ≡ g a
+    go below (inl small) = below a small
+    go below (inr big) =
+        let rest : a - 2 ^ k < 2 ^ k = omega (arith, two-pow-succ k) in
+        let is : a ≡ bitXor (2 ^ k) (a - 2 ^ k) = sym (ap (λ z. bitXor z (a - 2 ^ k)) (sym (one-mul (2 ^ k))) ∙ xor-shifted 1 k (a - 2 ^ k) rest ∙ omega arith) in
+        ap f is ∙ hf (2 ^ k) (a - 2 ^ k) ∙ ap₂ bitXor (same k (omega arith)) (below (a - 2 ^ k) rest) ∙ sym (ap g is ∙ hg (2 ^ k) (a - 2 ^ k))

@@ -1,2 +1,3 @@
 pub mod Field
 pub mod Binary
+pub mod Words

@@ -1,0 +1,4 @@
+pub mod Roots
+pub mod Codewords
+pub mod Messages
+pub mod Encoding

@@ -1,0 +1,47 @@
+-- The two codes, their numbers, and what a codeword is. Assumes nothing.
+use mathlib.Core.Path.{_≡_}
+use mathlib.Core.Bool.{Bool}
+use mathlib.Core.List.{List}
+use Prim.Native.Nat.{ℕ, _*_, _≤_}
+use lib.ListN.{length}
+use Rattle.std.specs.declared.result.Result.{Result}
+use Rattle.std.specs.declared.result.Result.the-variants.{Ok, Err}
+use Rattle.galois.specs.Words.{syndrome}
+use Rattle.field.specs.Bytes.{bytes}
+use Rattle.refusals.specs.declared.refusal.Refusal.{Refusal}
+use Rattle.refusals.specs.declared.refusal.Refusal.the-variants.{UnknownCode}
+use Rattle.bch.specs.declared.code.Code.{Code}
+use Rattle.bch.specs.declared.code.Code.the-variants.{Two, Three}
+
+-- the places of a word: one for each power of α
+abbrev pub places : ℕ
+places = 255
+
+-- the code number: how many errors the code corrects at least
+abbrev pub codeNumber : Code → ℕ
+codeNumber Two = 2
+codeNumber Three = 3
+
+-- the parity places of a word, the lowest ones
+abbrev pub parity : Code → ℕ
+parity Two = 16
+parity Three = 24
+
+-- the generator polynomial, bit i the coefficient of x^i
+abbrev pub generator : Code → ℕ
+generator Two = 0x16F63
+generator Three = 0x1BBA1B5
+
+-- no code has this number
+abbrev pub NoCode : ℕ → Type 0
+NoCode number = (k : Code) → codeNumber k ≡ number → ⊥
+
+-- the code that has this number, or the refusal where there is none
+abbrev pub CodeOf : ℕ → Result Code Refusal → Type 0
+CodeOf number (Ok k) = codeNumber k ≡ number
+CodeOf number (Err refusal) = (refusal ≡ UnknownCode) × NoCode number
+
+-- a word of the code: 255 places, and for each j from 1 to 2t the sum of α^(i·j) over the places i that hold one is zero
+pub record Codeword (k : Code) (w : List Bool) : Type 0 where
+  pub long : length w ≡ places
+  pub zeros : (j : ℕ) → 1 ≤ j → j ≤ 2 * codeNumber k → syndrome bytes j w ≡ 0

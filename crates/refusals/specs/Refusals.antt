@@ -1,0 +1,73 @@
+-- The table of refusals: what each returns, in which order they stand, and how a call is decided by it. Assumes nothing.
+use mathlib.Core.Path.{_≡_}
+use mathlib.Core.List.{List, [], _∷_}
+use mathlib.Core.Logic.{_⊎_}
+use Prim.Native.Nat.{ℕ}
+use lib.Dec.{ltb, when}
+use Rattle.std.specs.declared.result.Result.{Result}
+use Rattle.std.specs.declared.result.Result.the-variants.{Ok, Err}
+use Rattle.refusals.specs.declared.refusal.Refusal.{Refusal}
+use Rattle.refusals.specs.declared.refusal.Refusal.the-variants.{UnknownCode, WrongLength, Unsound, Unreadable, NoMessage, CountFull, TallyFull, NoLine, ShortOutput}
+
+-- what a refusal returns: its number, and the values that go with it
+abbrev pub returned : Refusal → List ℕ
+returned UnknownCode = 1 ∷ []
+returned WrongLength = 2 ∷ []
+returned (Unsound place) = 3 ∷ place ∷ []
+returned Unreadable = 4 ∷ []
+returned NoMessage = 5 ∷ []
+returned CountFull = 6 ∷ []
+returned TallyFull = 7 ∷ []
+returned NoLine = 8 ∷ []
+returned ShortOutput = 9 ∷ []
+
+-- what a call returns, refused or accepted; `answer` says what an accepted call returns
+abbrev pub outcome : {X : Type 0} → (X → List ℕ) → Result X Refusal → List ℕ
+outcome answer (Ok x) = answer x
+outcome answer (Err refusal) = returned refusal
+
+-- an accepted call whose answer is nothing else returns 0
+abbrev pub nothing : Unit {0} → List ℕ
+nothing x = 0 ∷ []
+
+-- the row of the table that a refusal stands in; the number is another matter
+abbrev pub row : Refusal → ℕ
+row UnknownCode = 0
+row WrongLength = 1
+row (Unsound place) = 2
+row Unreadable = 3
+row NoMessage = 4
+row CountFull = 5
+row TallyFull = 6
+row NoLine = 7
+row ShortOutput = 8
+
+-- the refusals that a call knows, each with its cause
+abbrev pub Causes : Type 1
+Causes = List (Refusal × Type 0)
+
+-- x is one of the refusals, and its cause holds
+abbrev pub Fits : Causes → Refusal → Type 0
+Fits [] x = ⊥
+Fits (c ∷ cs) x = ((x ≡ c .0) × c .1) ⊎ Fits cs x
+
+-- no cause holds of a refusal that stands in an earlier row than x
+abbrev pub NoneBefore : Causes → Refusal → Type 0
+NoneBefore [] x = Unit {0}
+NoneBefore (c ∷ cs) x = when (ltb (row (c .0)) (row x)) (c .1 → ⊥) × NoneBefore cs x
+
+-- no cause holds
+abbrev pub None : Causes → Type 0
+None [] = Unit {0}
+None (c ∷ cs) = (c .1 → ⊥) × None cs
+
+-- a refused call returns what the first row of the table returns whose cause holds
+pub record Refused (cs : Causes) (out : List ℕ) : Type 0 where
+  pub refusal : Refusal
+  pub fits : Fits cs refusal
+  pub first : NoneBefore cs refusal
+  pub is : out ≡ returned refusal
+
+-- what a call returns: the first refusal that fits or, where none does, what an accepted call returns
+abbrev pub Decides : Causes → List ℕ → List ℕ → Type 0
+Decides cs accepted out = Refused cs out ⊎ (None cs × (out ≡ accepted))

@@ -1,0 +1,5 @@
+// Why a call may be refused. One enum for every call of the receiver, in the order of the table of refusals.
+mod numbers;
+mod refusal;
+
+pub use refusal::Refusal;
