@@ -41,7 +41,11 @@ abbrev pub CodeOf : ℕ → Result Code Refusal → Type 0
 CodeOf number (Ok k) = codeNumber k ≡ number
 CodeOf number (Err refusal) = (refusal ≡ UnknownCode) × NoCode number
 
--- a word of the code: 255 places, and for each j from 1 to 2t the sum of α^(i·j) over the places i that hold one is zero
+-- for each j from 1 to 2t the sum of α^(i·j) over the places i that hold one is zero
+abbrev pub Vanishes : Code → List Bool → Type 0
+Vanishes k w = (j : ℕ) → 1 ≤ j → j ≤ 2 * codeNumber k → syndrome bytes j w ≡ 0
+
+-- a codeword of the code k: a word of 255 places whose syndromes vanish
 pub record Codeword (k : Code) (w : List Bool) : Type 0 where
   pub long : length w ≡ places
-  pub zeros : (j : ℕ) → 1 ≤ j → j ≤ 2 * codeNumber k → syndrome bytes j w ≡ 0
+  pub zeros : Vanishes k w

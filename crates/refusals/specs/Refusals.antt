@@ -2,8 +2,7 @@
 use mathlib.Core.Path.{_≡_}
 use mathlib.Core.List.{List, [], _∷_}
 use mathlib.Core.Logic.{_⊎_}
-use Prim.Native.Nat.{ℕ}
-use lib.Dec.{ltb, when}
+use Prim.Native.Nat.{ℕ, _<_}
 use Rattle.std.specs.declared.result.Result.{Result}
 use Rattle.std.specs.declared.result.Result.the-variants.{Ok, Err}
 use Rattle.refusals.specs.declared.refusal.Refusal.{Refusal}
@@ -54,7 +53,7 @@ Fits (c ∷ cs) x = ((x ≡ c .0) × c .1) ⊎ Fits cs x
 -- no cause holds of a refusal that stands in an earlier row than x
 abbrev pub NoneBefore : Causes → Refusal → Type 0
 NoneBefore [] x = Unit {0}
-NoneBefore (c ∷ cs) x = when (ltb (row (c .0)) (row x)) (c .1 → ⊥) × NoneBefore cs x
+NoneBefore (c ∷ cs) x = (row (c .0) < row x → c .1 → ⊥) × NoneBefore cs x
 
 -- no cause holds
 abbrev pub None : Causes → Type 0

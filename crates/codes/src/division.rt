@@ -1,0 +1,40 @@
+// Division of a word by the generator polynomial.
+ghost use mathlib.Core.Path.{_≡_};
+ghost use mathlib.Core.List.{_++_};
+ghost use Prim.Native.Nat.{ℕ, _+_, _^_, _<_, _≤_};
+ghost use lib.Bits.{bitXor};
+ghost use lib.ListN.{length, drop};
+ghost use Rattle.galois.specs.Binary.{twice};
+ghost use Rattle.galois.specs.Words.{digit, bits, remainder};
+ghost use Rattle.bch.specs.Codes.{parity, generator};
+use bch::Code;
+
+// The remainder with one place more below: x times the remainder plus that place.
+fn divide_step(rest: u32, place: bool, code: Code) -> u32
+    requires { ⌜ rest < 2 ^ parity code ⌝ }
+    ensures { λ r. ⌜ r ≡ bitXor (digit place) (twice (parity code) (generator code) rest) ⌝ }
+{
+    let doubled = rest * 2;
+    let top = (doubled >> code.parity()) % 2;
+    u32::from(place) ^ doubled ^ (top * code.generator())
+}
+
+// The remainder of a word on division by the code's generator.
+pub fn divide(bits: &[bool; 255], code: Code) -> u32
+    ensures { λ r. ⌜ r ≡ remainder (parity code) (generator code) (now (bits .entry)) ⌝ }
+{
+    let mut rest = 0;
+    for i in (0..255).rev() {
+        rest = divide_step(rest, bits[i], code);
+    }
+    rest
+}
+
+// The remainder written into the parity places.
+pub fn lay_parity(rest: u32, code: Code, places: &mut [bool; 255])
+    ensures { λ _. ⌜ now (places .exit) ≡ bits (parity code) rest ++ drop (parity code) (now (places .entry)) ⌝ }
+{
+    for i in 0..code.parity() {
+        places[i] = (rest >> i) % 2 == 1;
+    }
+}

@@ -1,0 +1,69 @@
+// From a codeword to the message that it carries.
+ghost use mathlib.Core.Path.{_≡_};
+ghost use mathlib.Core.Bool.{true, false};
+ghost use Prim.Native.Nat.{ℕ, _+_, _*_, _<_, _≤_};
+ghost use lib.ListN.{length, getD, take, drop};
+ghost use Rattle.galois.specs.Words.{number};
+ghost use Rattle.bch.specs.Codes.{places};
+ghost use Rattle.bch.specs.Messages.{wordBits, messageWords};
+ghost use Rattle.codes.specs.Steps.{Read, Empty};
+ghost use Rattle.codes.specs.Calls.{Takes, InAfterOut};
+use crate::message::MESSAGE_BITS;
+use crate::message::WORD_BITS;
+use crate::message::is_message;
+use crate::word::Word;
+use refusals::Refusal;
+
+// The number in the 32 places from `from` on.
+fn word_at(bits: &[bool; 255], from: usize) -> u32
+    requires { ⌜ from + wordBits ≤ places ⌝ }
+    ensures { λ r. ⌜ r ≡ number (take wordBits (drop from (now (bits .entry)))) ⌝ }
+{
+    let mut value = 0;
+    for b in (0..WORD_BITS).rev() {
+        value = value * 2 + u32::from(bits[from + b]);
+    }
+    value
+}
+
+// The numbers that stand in the places from `from` on.
+fn words_at(bits: &[bool; 255], from: usize) -> [u32; 7]
+    requires { ⌜ from + wordBits * messageWords ≤ places ⌝ }
+    ensures { λ r. ⌜ Read (now (bits .entry)) from r ⌝ }
+{
+    let mut words = [0; 7];
+    for i in 0..7 {
+        words[i] = word_at(bits, from + WORD_BITS * i);
+    }
+    words
+}
+
+// Whether the places from `from` on are empty.
+fn empty_from(bits: &[bool; 255], from: usize) -> bool
+    ensures yes { λ r. ⌜ (r ≡ true → Empty (now (bits .entry)) from) ⌝ }
+    ensures no { λ r. ⌜ (r ≡ false → Empty (now (bits .entry)) from → ⊥) ⌝ }
+{
+    for i in from..255 {
+        if bits[i] {
+            return false;
+        }
+    }
+    true
+}
+
+// Writes the message that the word carries to the caller's memory.
+pub fn take_message(word: &Word, message: &mut [u32; 7]) -> Result<(), Refusal>
+    ensures call { λ r. ⌜ Takes (now (word .entry)) (now (message .entry)) (now (message .exit)) r ⌝ }
+    ensures in_after_out { λ _. ⌜ InAfterOut ⌝ }
+{
+    let from = word.code().parity();
+    let words = words_at(word.bits(), from);
+    if !empty_from(word.bits(), from + MESSAGE_BITS) {
+        return Err(Refusal::NoMessage);
+    }
+    if !is_message(&words) {
+        return Err(Refusal::NoMessage);
+    }
+    *message = words;
+    Ok(())
+}

@@ -1,0 +1,42 @@
+ghost use mathlib.Core.Path.{_≡_};
+ghost use mathlib.Core.Bool.{false};
+ghost use lib.ListN.{replicate};
+ghost use Rattle.bch.specs.Codes.{places, Codeword};
+ghost use Rattle.bch.specs.declared.code.Code.the-variants.{Two};
+use super::Word;
+use bch::Code;
+
+impl Word {
+    // All zero, under code 2.
+    pub fn new() -> Word
+        ensures code { λ r. ⌜ r .code ≡ Two ⌝ }
+        ensures bits { λ r. ⌜ r .bits ≡ replicate places false ⌝ }
+    {
+        Word {
+            code: Code::Two,
+            bits: [false; 255],
+        }
+    }
+
+    pub fn code(&self) -> Code
+        ensures { λ r. ⌜ r ≡ now (self .entry) .code ⌝ }
+    {
+        self.code
+    }
+
+    // The bit at each place.
+    pub fn bits(&self) -> &[bool; 255]
+        ensures { λ r. ⌜ now r ≡ now (self .entry) .bits ⌝ }
+    {
+        &self.bits
+    }
+
+    // Becomes the given codeword: the one way to fill a word.
+    pub fn fill(&mut self, code: Code, bits: &[bool; 255])
+        requires { ⌜ Codeword code (now bits) ⌝ }
+        ensures code { λ _. ⌜ now (self .exit) .code ≡ code ⌝ }
+        ensures bits { λ _. ⌜ now (self .exit) .bits ≡ now (bits .entry) ⌝ }
+    {
+        *self = Word { code, bits: *bits };
+    }
+}
