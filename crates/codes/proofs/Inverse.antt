@@ -1,17 +1,7 @@
 -- Encoding and taking out undo each other. Assumes nothing.
-use mathlib.Core.Path.{_≡_, refl, sym, ap, subst, _∙_}
-use mathlib.Core.Bool.{Bool, true}
-use mathlib.Core.List.{List, [], _∷_}
-use mathlib.Core.Logic.{_⊎_, inl, inr}
-use Prim.Native.Nat.{ℕ}
+use mathlib.Core.Path.{_≡_, refl, sym, subst}
 use native.Mathlib.Omega.{arith}
-use lib.ListN.{getD}
-use Rattle.std.specs.declared.result.Result.{Result}
-use Rattle.std.specs.declared.result.Result.the-variants.{Ok, Err}
-use Rattle.std.specs.Results.{isOk}
-use Rattle.refusals.specs.declared.refusal.Refusal.{Refusal}
-use Rattle.refusals.specs.declared.refusal.Refusal.the-variants.{UnknownCode, WrongLength, Unsound, Unreadable, NoMessage, CountFull, TallyFull, NoLine, ShortOutput}
-use Rattle.refusals.specs.Refusals.{Causes, Decides, None, Fits, Refused, outcome, nothing, returned}
+use Rattle.refusals.proofs.Decided.{decided-accepted}
 use Rattle.bch.specs.declared.code.Code.{Code}
 use Rattle.bch.specs.declared.code.Code.the-variants.{Two, Three}
 use Rattle.bch.specs.Codes.{codeNumber, Codeword}
@@ -20,33 +10,7 @@ use Rattle.codes.specs.declared.word.Word.{Word}
 use Rattle.codes.specs.Calls.{Encodes, Encoded, Takes, encodeCauses, takeCauses, OutAfterIn, InAfterOut}
 use Rattle.codes.proofs.Same.{same-word}
 
--- no refusal returns 0
-first-above : (x : Refusal) → getD (returned x) 0 0 ≡ 0 → ⊥
-first-above UnknownCode e = omega arith
-first-above WrongLength e = omega arith
-first-above (Unsound place) e = omega arith
-first-above Unreadable e = omega arith
-first-above NoMessage e = omega arith
-first-above CountFull e = omega arith
-first-above TallyFull e = omega arith
-first-above NoLine e = omega arith
-first-above ShortOutput e = omega arith
-
-zero-accepted : (r : Result (Unit {0}) Refusal) → outcome nothing r ≡ 0 ∷ [] → isOk r ≡ true
-zero-accepted (Ok x) e = refl
-zero-accepted (Err x) e = absurd (first-above x (ap (λ l. getD l 0 0) e))
-
-pub none-fits : (cs : Causes) (x : Refusal) → None cs → Fits cs x → ⊥
-none-fits [] x n f = f
-none-fits (c ∷ cs) x n (inl h) = n .0 (h .1)
-none-fits (c ∷ cs) x n (inr h) = none-fits cs x (n .1) h
-
--- where no cause holds, the call is accepted
-pub decided-accepted : (cs : Causes) (r : Result (Unit {0}) Refusal) → None cs → Decides cs (0 ∷ []) (outcome nothing r) → isOk r ≡ true
-decided-accepted cs r n (inl h) = absurd (none-fits cs (h .refusal) n (h .fits))
-decided-accepted cs r n (inr h) = zero-accepted r (h .1)
-
-code-injective : (j k : Code) → codeNumber j ≡ codeNumber k → j ≡ k
+pub code-injective : (j k : Code) → codeNumber j ≡ codeNumber k → j ≡ k
 code-injective Two Two e = refl
 code-injective Two Three e = absurd (omega arith)
 code-injective Three Two e = absurd (omega arith)

@@ -1,0 +1,19 @@
+use mathlib.Core.Logic.{_≢_}
+use Prim.Native.Nat.{_<_}
+use native.Mathlib.Omega.{arith}
+use borrow.Author.Count.{below-more}
+use lib.ListN.{length, length-set}
+use lib.Seq.{getD-set-same, getD-set-other}
+use Rattle.wire.proofs.Sending.{all-samples}
+use Rattle.wire.proofs.lay_samples.Needs as need
+
+pub loop-i-again : need.loop-i-again
+loop-i-again c = (
+  simp length-set (c .loop-i .inv .0),
+  below-more _ _
+  (λ j h. let ne : j ≢ c .loop-i .i = omega arith in rw getD-set-other (c .loop-i .inv .1 j h))
+  (let lt : c .loop-i .i < length (c .loop-i .samples) = omega arith in rw getD-set-same (c .sample-of .ensures)),
+)
+
+pub returns : need.returns
+returns c = all-samples (c .args .bits .now) (c .loop-i .samples) (omega arith) (λ i h. c .loop-i .inv .1 i (omega arith))

@@ -1,0 +1,42 @@
+-- Records of messages as bytes, words as samples, and what sending a record does. Assumes nothing.
+use mathlib.Core.Path.{_≡_}
+use mathlib.Core.Bool.{Bool, true, false}
+use mathlib.Core.List.{List, [], _∷_, map}
+use Prim.Native.Nat.{ℕ, zero, suc, _+_, _-_, _*_, _^_}
+use lib.ListN.{getD}
+use Rattle.std.specs.declared.result.Result.{Result}
+use Rattle.std.specs.Results.{isOk, isErr}
+use Rattle.refusals.specs.declared.refusal.Refusal.{Refusal}
+use Rattle.refusals.specs.declared.refusal.Refusal.the-variants.{NoMessage}
+use Rattle.refusals.specs.Refusals.{Causes, Decides, outcome, nothing}
+use Rattle.bch.specs.declared.code.Code.the-variants.{Two}
+use Rattle.bch.specs.Messages.{messageWords, Message, encoding}
+
+-- word i of a record: four bytes, the high one first
+abbrev pub recordWord : List ℕ → ℕ → ℕ
+recordWord bytes i = getD bytes (4 * i) 0 * 2 ^ 24 + getD bytes (4 * i + 1) 0 * 2 ^ 16 + getD bytes (4 * i + 2) 0 * 2 ^ 8 + getD bytes (4 * i + 3) 0
+
+-- n words of a record, from word i on
+abbrev pub wordsFrom : ℕ → ℕ → List ℕ → List ℕ
+wordsFrom zero i bytes = []
+wordsFrom (suc n) i bytes = recordWord bytes i ∷ wordsFrom n (suc i) bytes
+
+-- the words of a record
+unfoldable pub recordWords : List ℕ → List ℕ
+recordWords bytes = wordsFrom messageWords 0 bytes
+
+-- a bit as a sample of one byte: 127 for one, -127 in two's complement for zero
+abbrev pub sample : Bool → ℕ
+sample true = 127
+sample false = 256 - 127
+
+-- A record is refused where its words are no message.
+abbrev pub sendCauses : List ℕ → Causes
+sendCauses bytes = (NoMessage, (Message (recordWords bytes) → ⊥)) ∷ []
+
+-- sending a record: its bytes, the samples before and after, and the answer
+pub record Sends (bytes : List ℕ) (old new : List ℕ) (answer : Result (Unit {0}) Refusal) : Type 0 where
+  pub decided : Decides (sendCauses bytes) (0 ∷ []) (outcome nothing answer)
+  pub refused : isErr answer ≡ true → new ≡ old
+  -- the encoding under code 2 of the record's words, place by place
+  pub accepted : isOk answer ≡ true → new ≡ map sample (encoding Two (recordWords bytes))
