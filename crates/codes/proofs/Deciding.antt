@@ -39,7 +39,7 @@ refuse-message words number word k is not = record {
 }
 
 pub accept : (words : List ℕ) (number : ℕ) (old new : Word) (k : Code) → codeNumber k ≡ number → Message words → new .code ≡ k → new .bits ≡ encoding k words
-  → Encodes words number old new (Ok tt)
+    → Encodes words number old new (Ok tt)
 accept words number old new k is message code built =
     let parity : new .bits ≡ encoding (new .code) words = built ∙ ap (λ q. encoding q words) (sym code) in
     record {
@@ -69,7 +69,7 @@ laid-payload k m w message long laid =
     (λ i h. laid .below i h ∙ getD-replicate places i false false (omega (arith, parity-below k)) ∙ sym (getD-append-left (replicate (parity k) false) (payload k m) false i (omega arith) ∙ getD-replicate (parity k) i false false h))
 
 pub built : (k : Code) (m : List ℕ) (w full : List Bool) (rest : ℕ) → w ≡ replicate (parity k) false ++ payload k m → rest ≡ remainder (parity k) (generator k) w
-  → full ≡ bits (parity k) rest ++ drop (parity k) w → full ≡ encoding k m
+    → full ≡ bits (parity k) rest ++ drop (parity k) w → full ≡ encoding k m
 built k m w full rest e f g =
     g ∙ ap (λ r. bits (parity k) r ++ drop (parity k) w) f
     ∙ ap (λ v. bits (parity k) (remainder (parity k) (generator k) v) ++ drop (parity k) v) e

@@ -28,7 +28,7 @@ divide-none n g w i h = sym (ap (remainder n g) (drop-all i w h))
 
 -- one place more
 pub divide-more : (n g : ℕ) (w : List Bool) (i rest r : ℕ) → 0 < i → i ≤ length w → rest ≡ remainder n g (drop i w)
-  → r ≡ bitXor (digit (getD w (i - 1) false)) (twice n g rest) → r ≡ remainder n g (drop (i - 1) w)
+    → r ≡ bitXor (digit (getD w (i - 1) false)) (twice n g rest) → r ≡ remainder n g (drop (i - 1) w)
 divide-more n g w i rest r pos h e f =
     let back : i - 1 + 1 ≡ i = omega arith in
     f ∙ ap (λ z. bitXor (digit (getD w (i - 1) false)) (twice n g z)) (e ∙ ap (λ z. remainder n g (drop z w)) (sym back))
@@ -41,7 +41,7 @@ divide-all n g w i rest h e =
 
 -- a word whose n lowest places are a number's bits
 pub low-bits : (n r : ℕ) (old new : List Bool) → n ≤ length old → length new ≡ length old → ((j : ℕ) → j < n → getD new j false ≡ bit j r)
-  → ((j : ℕ) → n ≤ j → getD new j false ≡ getD old j false) → new ≡ bits n r ++ drop n old
+    → ((j : ℕ) → n ≤ j → getD new j false ≡ getD old j false) → new ≡ bits n r ++ drop n old
 low-bits n r old new h l low high =
     let lb = length-bits n r in
     ext-getD false new (bits n r ++ drop n old) (l ∙ sym (length-append (bits n r) (drop n old) ∙ omega (arith, length-drop n old)))

@@ -1,10 +1,10 @@
 // Corrected words, and messages put into them and taken out.
-mod word;
-mod message;
 mod division;
 mod encoding;
+mod message;
 mod taking;
+mod word;
 
-pub use word::Word;
 pub use encoding::encode;
 pub use taking::take_message;
+pub use word::Word;

@@ -8,9 +8,13 @@ ghost use Rattle.bch.specs.Messages.{messageWords, wordBits, Message};
 ghost use Rattle.codes.specs.Steps.{Laid};
 
 pub const MESSAGE_WORDS: usize = 7;
+
 pub const WORD_BITS: usize = 32;
+
 pub const MESSAGE_BITS: usize = 224;
+
 const KIND_SHIFT: u32 = 30;
+
 const MESSAGE_KIND: u32 = 1;
 
 // Whether the words are a message.

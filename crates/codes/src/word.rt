@@ -3,6 +3,7 @@ ghost use mathlib.Core.Path.{_≡_};
 ghost use lib.ListN.{length};
 ghost use Rattle.bch.specs.Codes.{places, Vanishes};
 use bch::Code;
+
 mod methods;
 
 #[derive(Drop)]

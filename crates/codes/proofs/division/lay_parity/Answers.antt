@@ -17,8 +17,8 @@ pub loop-i-again : need.loop-i-again
 loop-i-again c = (
   simp length-set (c .loop-i .inv .0),
   below-more _ _
-  (λ j h. let ne : j ≢ c .loop-i .i = omega arith in rw getD-set-other (c .loop-i .inv .1 j h))
-  (let lt : c .loop-i .i < length (c .loop-i .places) = omega (arith, parity-below (c .args .code)) in rw getD-set-same),
+      (λ j h. let ne : j ≢ c .loop-i .i = omega arith in rw getD-set-other (c .loop-i .inv .1 j h))
+      (let lt : c .loop-i .i < length (c .loop-i .places) = omega (arith, parity-below (c .args .code)) in rw getD-set-same),
   (λ j h. let ne : j ≢ c .loop-i .i = omega arith in rw getD-set-other (c .loop-i .inv .2 j (omega arith))),
 )
 
