@@ -1,13 +1,15 @@
 -- A word is a codeword exactly when the generator divides it, that is when its low places are the remainder of its rest. Assumes nothing.
 use mathlib.Core.Path.{_≡_, refl, sym, ap, _∙_}
-use mathlib.Core.Bool.{Bool, false}
+use mathlib.Core.Bool.{Bool, true, false}
 use mathlib.Core.List.{List, _++_}
-use Prim.Native.Nat.{ℕ, _+_, _≤_}
+use Prim.Native.Nat.{ℕ, zero, suc, _+_, _*_, _≤_}
 use native.Mathlib.Omega.{arith}
+use lib.Dec.{eqb}
 use lib.ListN.{length, take, drop, replicate, length-append, take-append-drop}
 use Rattle.std.proofs.shelf.Lists.{length-take-le, length-replicate}
-use Rattle.std.proofs.shelf.Tests.{leb-true}
-use Rattle.galois.specs.Words.{bits, remainder, systematic}
+use Rattle.std.proofs.shelf.Tests.{eqb-true, leb-true}
+use Rattle.galois.specs.Words.{bits, syndrome, remainder, systematic}
+use Rattle.galois.proofs.Primitive.{every, every-at}
 use Rattle.galois.proofs.Words.{remainder-lt, divisible-systematic, systematic-divisible, length-bits}
 use Rattle.galois.proofs.Sums.{value, value-zero, syndrome-remainder, sum-zeros}
 use Rattle.field.specs.Bytes.{bytes}
@@ -49,3 +51,11 @@ module _ (k : Code) where
 
   pub zero-codeword : Codeword k (replicate places false)
   zero-codeword = record { long = length-replicate places false; zeros = λ j h m. sum-zeros bytes-laws j 0 places }
+
+-- a word whose syndromes are computed and found zero
+pub computed-codeword : (k : Code) (w : List Bool) → length w ≡ places → every (λ i. eqb (syndrome bytes (suc i) w) 0) (2 * codeNumber k) ≡ true → Codeword k w
+computed-codeword k w long test = record { long = long; zeros = zeros }
+  where
+    zeros : (j : ℕ) → 1 ≤ j → j ≤ 2 * codeNumber k → syndrome bytes j w ≡ 0
+    zeros zero h l = absurd (omega arith)
+    zeros (suc i) h l = eqb-true (syndrome bytes (suc i) w) 0 (every-at (λ n. eqb (syndrome bytes (suc n) w) 0) (2 * codeNumber k) test i (omega arith))

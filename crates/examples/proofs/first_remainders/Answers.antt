@@ -1,0 +1,7 @@
+use mathlib.Core.Path.{refl}
+use Rattle.examples.specs.Ones.{onesAt}
+use Rattle.examples.proofs.first_remainders.Needs as need
+
+pub returns : need.returns
+unfolding onesAt
+returns c = record { two = refl; three = refl }
