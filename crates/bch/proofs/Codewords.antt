@@ -8,7 +8,8 @@ use lib.Dec.{eqb}
 use lib.ListN.{length, take, drop, replicate, length-append, take-append-drop}
 use Rattle.std.proofs.shelf.Lists.{length-take-le, length-replicate}
 use Rattle.std.proofs.shelf.Tests.{eqb-true, leb-true}
-use Rattle.galois.specs.Words.{bits, syndrome, remainder, systematic}
+use Rattle.galois.specs.Polynomials.{bits, remainder}
+use Rattle.galois.specs.Words.{syndrome, systematic}
 use Rattle.galois.proofs.Primitive.{every, every-at}
 use Rattle.galois.proofs.Words.{remainder-lt, divisible-systematic, systematic-divisible, length-bits}
 use Rattle.galois.proofs.Sums.{value, value-zero, syndrome-remainder, sum-zeros}

@@ -5,7 +5,8 @@ use mathlib.Core.List.{List}
 use Prim.Native.Nat.{ℕ}
 use lib.ListN.{length, drop}
 use Rattle.std.proofs.shelf.Lists.{drop-at}
-use Rattle.galois.specs.Words.{bits, systematic}
+use Rattle.galois.specs.Polynomials.{bits}
+use Rattle.galois.specs.Words.{systematic}
 use Rattle.galois.proofs.Words.{length-bits}
 use Rattle.bch.specs.declared.code.Code.{Code}
 use Rattle.bch.specs.Codes.{parity, generator, Codeword}

@@ -10,7 +10,7 @@ use lib.ListN.{length, getD, take, drop, replicate, length-append, length-drop}
 use Rattle.std.specs.Joined.{joined}
 use Rattle.std.proofs.shelf.Lists.{length-replicate, getD-replicate, getD-append-left, getD-append-right, getD-drop, getD-take, length-take-le, drop-at, ext-getD}
 use Rattle.std.proofs.shelf.Tests.{cases-lt}
-use Rattle.galois.specs.Words.{bits, number}
+use Rattle.galois.specs.Polynomials.{bits, number}
 use Rattle.galois.proofs.Words.{length-bits, getD-bits, bits-injective, bit-number, number-lt}
 use Rattle.bch.specs.declared.code.Code.{Code}
 use Rattle.bch.specs.declared.code.Code.the-variants.{Two, Three}

@@ -8,7 +8,8 @@ use native.Mathlib.Omega.{arith}
 use lib.Bits.{bitXor, xor-self, xor-zero-r}
 use lib.Dec.{eqb, ltb, leb}
 use Rattle.std.proofs.shelf.Tests.{and-parts, eqb-true, ltb-true, leb-true}
-use Rattle.galois.specs.Words.{bits, syndrome}
+use Rattle.galois.specs.Polynomials.{bits}
+use Rattle.galois.specs.Words.{syndrome}
 use Rattle.galois.proofs.Additive.{Additive, basis, bit-times, bit-lt, xor-odd, xor-half, xor-swap}
 use Rattle.galois.proofs.Primitive.{every, every-at}
 use Rattle.galois.proofs.Sums.{value, sum-xor}

@@ -6,7 +6,8 @@ use Prim.Native.Nat.{ℕ, _+_, _-_, _*_, _/_, _%_, _^_, _<_, _≤_}
 use lib.Dec.{eqb}
 use lib.ListN.{length, getD, replicate}
 use Rattle.std.specs.Joined.{joined}
-use Rattle.galois.specs.Words.{bits, systematic}
+use Rattle.galois.specs.Polynomials.{bits}
+use Rattle.galois.specs.Words.{systematic}
 use Rattle.bch.specs.declared.code.Code.{Code}
 use Rattle.bch.specs.Codes.{places, parity, generator}
 

@@ -13,7 +13,7 @@ use Rattle.std.proofs.shelf.Lists.{getD-append-left, getD-replicate, length-rep
 use Rattle.refusals.specs.declared.refusal.Refusal.{Refusal}
 use Rattle.refusals.specs.declared.refusal.Refusal.the-variants.{UnknownCode, NoMessage}
 use Rattle.refusals.specs.Refusals.{returned}
-use Rattle.galois.specs.Words.{bits, remainder}
+use Rattle.galois.specs.Polynomials.{bits, remainder}
 use Rattle.bch.specs.declared.code.Code.{Code}
 use Rattle.bch.specs.Codes.{places, NoCode, codeNumber, parity, generator, Codeword}
 use Rattle.bch.specs.Messages.{Message, Carries, payload, encoding}

@@ -10,8 +10,7 @@ use lib.ListN.{length, getD, drop, length-append, length-drop}
 use mir.Val.{boolByte}
 use Rattle.std.proofs.shelf.Lists.{drop-more, drop-all, ext-getD, getD-append-left, getD-append-right, getD-drop}
 use Rattle.std.proofs.shelf.Tests.{cases-lt}
-use Rattle.galois.specs.Binary.{twice}
-use Rattle.galois.specs.Words.{digit, bits, remainder}
+use Rattle.galois.specs.Polynomials.{twice, digit, bits, remainder}
 use Rattle.galois.proofs.Words.{length-bits, getD-bits}
 use Rattle.bch.specs.Messages.{bit}
 

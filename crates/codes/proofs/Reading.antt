@@ -11,7 +11,7 @@ use lib.Pow.{pow-mono}
 use Rattle.std.proofs.shelf.Lists.{drop-more, ext-getD}
 use Rattle.std.proofs.shelf.Tests.{false≢true}
 use Rattle.refusals.specs.declared.refusal.Refusal.the-variants.{NoMessage}
-use Rattle.galois.specs.Words.{digit, number}
+use Rattle.galois.specs.Polynomials.{digit, number}
 use Rattle.galois.proofs.Words.{number-lt}
 use Rattle.bch.specs.declared.code.Code.{Code}
 use Rattle.bch.specs.Codes.{places, parity}

@@ -4,7 +4,7 @@ use mathlib.Core.Bool.{Bool, false}
 use mathlib.Core.List.{List}
 use Prim.Native.Nat.{ℕ, _+_, _*_, _<_, _≤_}
 use lib.ListN.{length, getD, take, drop}
-use Rattle.galois.specs.Words.{number}
+use Rattle.galois.specs.Polynomials.{number}
 use Rattle.bch.specs.Codes.{places}
 use Rattle.bch.specs.Messages.{messageWords, wordBits, bit}
 

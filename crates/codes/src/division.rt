@@ -4,8 +4,7 @@ ghost use mathlib.Core.List.{_++_};
 ghost use Prim.Native.Nat.{ℕ, _+_, _^_, _<_, _≤_};
 ghost use lib.Bits.{bitXor};
 ghost use lib.ListN.{length, drop};
-ghost use Rattle.galois.specs.Binary.{twice};
-ghost use Rattle.galois.specs.Words.{digit, bits, remainder};
+ghost use Rattle.galois.specs.Polynomials.{twice, digit, bits, remainder, Divided};
 ghost use Rattle.bch.specs.Codes.{parity, generator};
 use bch::Code;
 
@@ -21,7 +20,8 @@ fn divide_step(rest: u32, place: bool, code: Code) -> u32
 
 // The remainder of a word on division by the code's generator.
 pub fn divide(bits: &[bool; 255], code: Code) -> u32
-    ensures { λ r. ⌜ r ≡ remainder (parity code) (generator code) (now (bits .entry)) ⌝ }
+    ensures value { λ r. ⌜ r ≡ remainder (parity code) (generator code) (now (bits .entry)) ⌝ }
+    ensures divided { λ r. ⌜ Divided (parity code) (generator code) (now (bits .entry)) r ⌝ }
 {
     let mut rest = 0;
     for i in (0..255).rev() {

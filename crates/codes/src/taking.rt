@@ -3,7 +3,7 @@ ghost use mathlib.Core.Path.{_≡_};
 ghost use mathlib.Core.Bool.{true, false};
 ghost use Prim.Native.Nat.{ℕ, _+_, _*_, _<_, _≤_};
 ghost use lib.ListN.{length, getD, take, drop};
-ghost use Rattle.galois.specs.Words.{number};
+ghost use Rattle.galois.specs.Polynomials.{number};
 ghost use Rattle.bch.specs.Codes.{places};
 ghost use Rattle.bch.specs.Messages.{wordBits, messageWords};
 ghost use Rattle.codes.specs.Steps.{Read, Empty};

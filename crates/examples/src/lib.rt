@@ -2,7 +2,7 @@
 ghost use mathlib.Core.Path.{_≡_};
 ghost use mathlib.Core.List.{_∷_, []};
 ghost use lib.ListN.{getD};
-ghost use Rattle.galois.specs.Words.{remainder};
+ghost use Rattle.galois.specs.Polynomials.{remainder};
 ghost use Rattle.bch.specs.declared.code.Code.the-variants.{Two, Three};
 ghost use Rattle.bch.specs.Codes.{parity, generator, Codeword};
 ghost use Rattle.examples.specs.Ones.{onesAt};

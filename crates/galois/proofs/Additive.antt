@@ -7,7 +7,7 @@ use native.Mathlib.Omega.{arith}
 use lib.Bits.{bitXor, xor-assoc, xor-comm, xor-self, xor-zero-r, xor-zero-l, xor-block, xor-shr, xor-mod, xor-shifted}
 use lib.Dec.{lit<}
 use Rattle.std.proofs.shelf.Tests.{cases-lt}
-use Rattle.galois.specs.Binary.{twice}
+use Rattle.galois.specs.Polynomials.{twice}
 
 pub xor-swap : (a b c d : ℕ) → bitXor (bitXor a b) (bitXor c d) ≡ bitXor (bitXor a c) (bitXor b d)
 xor-swap a b c d =
@@ -28,6 +28,12 @@ bit-cases (suc (suc c)) h = absurd (omega arith)
 
 pub bit-lt : (a : ℕ) → a % 2 < 2
 bit-lt a = omega arith
+
+pub bit-product-lt : (k c b : ℕ) → c < 2 → b < k → c * b < k
+bit-product-lt k c b h l =
+    let none = zero-mul b in
+    let one = one-mul b in
+    ⊎-elim (λ (e : c ≡ 0). rw e (omega arith)) (λ (e : c ≡ 1). rw e (omega arith)) (bit-cases c h)
 
 -- an additive function passes a coefficient by
 pub additive-bit : (f : ℕ → ℕ) → Additive f → (c b : ℕ) → c < 2 → f (c * b) ≡ c * f b

@@ -1,6 +1,7 @@
 pub mod Additive
 pub mod Product
+pub mod Words
+pub mod Reducing
 pub mod Primitive
 pub mod Powers
-pub mod Words
 pub mod Sums

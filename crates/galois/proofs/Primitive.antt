@@ -12,8 +12,10 @@ use mathlib.Core.Logic.{_⊎_, inl, inr, ⊎-elim}
 use Rattle.std.proofs.shelf.Tests.{and-parts, cases-eq, eqb-true, ltb-true, leb-true}
 use lib.ListN.{length, getD}
 use Rattle.galois.specs.Field.{Field, Laws}
-use Rattle.galois.specs.Binary.{twice, product, powerOf, binary}
+use Rattle.galois.specs.Polynomials.{twice}
+use Rattle.galois.specs.Binary.{product, powerOf, binary}
 use Rattle.galois.proofs.Product as by
+use Rattle.galois.proofs.Reducing.{product-stepped}
 
 -- k numbers, each the double of the one before
 abbrev pub orbit : ℕ → ℕ → ℕ → ℕ → List ℕ
@@ -91,6 +93,9 @@ module _ (n p : ℕ) (test : primitive n p ≡ true) where
   hi : p < 2 ^ suc n
   hi = ltb-true p (2 ^ suc n) (parts .2)
 
+  is : (a b : ℕ) → b < 2 ^ n → product n p a b ≡ by.stepped n p a b
+  is a b lb = product-stepped (record { pos = pos; lo = lo; hi = hi }) a b lb
+
   odd : p % 2 ≡ 1
   odd = eqb-true (p % 2) 1 (parts .3)
 
@@ -116,18 +121,20 @@ module _ (n p : ℕ) (test : primitive n p ≡ true) where
   binary-laws = record {
     zero-one = pow-lt {i = 0} {j = n} pos;
     plus-closed = λ a b. xor-lt n a b;
-    times-closed = λ a b la. by.product-closed n p lo hi n a b;
+    times-closed = λ a b la lb. rw (is a b lb) (by.product-closed n p lo hi n a b lb);
     power-closed = by.power-closed n p pos lo hi;
     plus-assoc = λ a b c _ _ _. xor-assoc a b c;
     plus-comm = λ a b _ _. xor-comm a b;
     plus-zero = λ a _. refl;
     plus-self = λ a _. xor-self a;
-    times-assoc = by.product-assoc n p lo hi;
-    times-comm = by.product-comm n p;
-    times-one = λ a la. by.product-comm n p 1 a (pow-lt {i = 0} {j = n} pos) la ∙ by.product-one n p n a (le-refl n) la;
-    distributes = λ a b c _ _ _. by.product-additive n p n a b c;
+    times-assoc = λ a b c la lb lc.
+        is (product n p a b) c lc ∙ ap (λ x. by.stepped n p x c) (is a b lb) ∙ by.product-assoc n p lo hi a b c la lb lc
+        ∙ sym (ap (product n p a) (is b c lc) ∙ is a (by.stepped n p b c) (by.product-closed n p lo hi n b c lc));
+    times-comm = λ a b la lb. is a b lb ∙ by.product-comm n p a b la lb ∙ sym (is b a la);
+    times-one = λ a la. is 1 a la ∙ by.product-comm n p 1 a (pow-lt {i = 0} {j = n} pos) la ∙ by.product-one n p n a (le-refl n) la;
+    distributes = λ a b c _ lb lc. is a (bitXor b c) (xor-lt n b c lb lc) ∙ by.product-additive n p n a b c ∙ sym (ap₂ bitXor (is a b lb) (is a c lc));
     power-first = refl;
-    power-next = λ k. sym (by.product-x n p pos lo hi (powerOf n p k) (by.power-closed n p pos lo hi k));
+    power-next = λ k. let below = by.power-closed n p pos lo hi k in sym (is (powerOf n p 1) (powerOf n p k) below ∙ by.product-x n p pos lo hi (powerOf n p k) below);
     power-nonzero = by.power-positive n p odd;
     power-repeats = eqb-true _ 1 (parts .4);
     power-differs = differs;

@@ -1,4 +1,4 @@
--- The laws of the product modulo a polynomial, for any degree and polynomial. Assumes nothing.
+-- The product modulo a polynomial, coefficient by coefficient, and its laws for any degree and polynomial. Assumes nothing.
 use mathlib.Core.Path.{_≡_, refl, sym, ap, ap₂, _∙_}
 use Prim.Native.Nat.{ℕ, zero, suc, _+_, _-_, _*_, _/_, _%_, _^_, _<_, _≤_}
 use mathlib.Core.Logic.{_⊎_, inl, inr, ⊎-elim}
@@ -8,11 +8,21 @@ use lib.Bits.{bitXor, xor-assoc, xor-comm, xor-self, xor-zero-r, xor-zero-l, xor
 use lib.Dec.{lit<}
 use lib.Pow.{pow-mono, pow-pos, pow-lt, high}
 use Rattle.std.proofs.shelf.Tests.{cases-lt}
-use Rattle.galois.specs.Binary.{twice, productOf, product, powerOf}
-use Rattle.galois.proofs.Additive.{Additive, additive-zero, additive-bit, bit-times, times-bit, bit-lt, bit-cases, twice-additive, xor-swap, xor-odd, xor-half}
+use Rattle.galois.specs.Polynomials.{twice}
+use Rattle.galois.specs.Binary.{powerOf}
+use Rattle.galois.proofs.Additive.{Additive, additive-zero, additive-bit, bit-times, times-bit, bit-lt, bit-cases, bit-product-lt, twice-additive, xor-swap, xor-odd, xor-half}
 
 one-lt : (n : ℕ) → 0 < n → 1 < 2 ^ n
 one-lt n h = pow-lt {i = 0} {j = n} h
+
+-- a times b modulo p, over the lowest k coefficients of a: the constant coefficient times b, plus x times the product of the others and b
+abbrev pub productOf : ℕ → ℕ → ℕ → ℕ → ℕ → ℕ
+productOf n p zero a b = 0
+productOf n p (suc k) a b = bitXor (a % 2 * b) (twice n p (productOf n p k (a / 2) b))
+
+-- a times b modulo p, over all n coefficients
+abbrev pub stepped : ℕ → ℕ → ℕ → ℕ → ℕ
+stepped n p a b = productOf n p n a b
 
 module _ (n p : ℕ) where
   -- the product is additive in its second factor, and doubling passes through it
@@ -76,23 +86,20 @@ module _ (n p : ℕ) where
 
   pub product-closed : 2 ^ n ≤ p → p < 2 ^ suc n → (k a b : ℕ) → b < 2 ^ n → productOf n p k a b < 2 ^ n
   product-closed lo hi zero a b l = pow-pos n
-  product-closed lo hi (suc k) a b l = xor-lt n (a % 2 * b) _ (bit-below (a % 2) (bit-lt a)) (twice-closed lo hi _ (product-closed lo hi k (a / 2) b l))
-    where
-      bit-below : (c : ℕ) → c < 2 → c * b < 2 ^ n
-      bit-below c h = ⊎-elim (λ e. rw e (rw zero-mul (pow-pos n))) (λ e. rw e (rw one-mul l)) (bit-cases c h)
+  product-closed lo hi (suc k) a b l = xor-lt n (a % 2 * b) _ (bit-product-lt (2 ^ n) (a % 2) b (bit-lt a) l) (twice-closed lo hi _ (product-closed lo hi k (a / 2) b l))
 
-  pub product-comm : (a b : ℕ) → a < 2 ^ n → b < 2 ^ n → product n p a b ≡ product n p b a
+  pub product-comm : (a b : ℕ) → a < 2 ^ n → b < 2 ^ n → stepped n p a b ≡ stepped n p b a
   product-comm a b la lb =
-      ap (product n p a) (sym (product-one n b (le-refl n) lb)) ∙ exchange n n a b 1 ∙ ap (product n p b) (product-one n a (le-refl n) la)
+      ap (stepped n p a) (sym (product-one n b (le-refl n) lb)) ∙ exchange n n a b 1 ∙ ap (stepped n p b) (product-one n a (le-refl n) la)
 
-  pub product-assoc : 2 ^ n ≤ p → p < 2 ^ suc n → (a b c : ℕ) → a < 2 ^ n → b < 2 ^ n → c < 2 ^ n → product n p (product n p a b) c ≡ product n p a (product n p b c)
+  pub product-assoc : 2 ^ n ≤ p → p < 2 ^ suc n → (a b c : ℕ) → a < 2 ^ n → b < 2 ^ n → c < 2 ^ n → stepped n p (stepped n p a b) c ≡ stepped n p a (stepped n p b c)
   product-assoc lo hi a b c la lb lc =
-      product-comm (product n p a b) c (product-closed lo hi n a b lb) lc
+      product-comm (stepped n p a b) c (product-closed lo hi n a b lb) lc
       ∙ exchange n n c a b
-      ∙ ap (product n p a) (product-comm c b lc lb)
+      ∙ ap (stepped n p a) (product-comm c b lc lb)
 
   -- x times b
-  pub product-x : 0 < n → 2 ^ n ≤ p → p < 2 ^ suc n → (b : ℕ) → b < 2 ^ n → product n p (twice n p 1) b ≡ twice n p b
+  pub product-x : 0 < n → 2 ^ n ≤ p → p < 2 ^ suc n → (b : ℕ) → b < 2 ^ n → stepped n p (twice n p 1) b ≡ twice n p b
   product-x pos lo hi b lb =
       product-comm (twice n p 1) b (twice-closed lo hi 1 (one-lt n pos)) lb
       ∙ product-twice n b 1

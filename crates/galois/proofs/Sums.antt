@@ -10,12 +10,12 @@ use lib.Bits.{bitXor}
 use lib.Dec.{eqb}
 use lib.ListN.{length, replicate}
 use Rattle.galois.specs.Field.{Field, Laws, Element}
-use Rattle.galois.specs.Binary.{twice}
-use Rattle.galois.specs.Words.{digit, bits, held, sumFrom, syndrome, remainder}
+use Rattle.galois.specs.Polynomials.{twice, digit, bits, remainder}
+use Rattle.galois.specs.Words.{held, sumFrom, syndrome}
 use Rattle.galois.proofs.Additive.{bit-lt, bit-cases, xor-odd, xor-half}
 use Rattle.galois.proofs.Powers.{zero-element, times-zero, plus-zero-r, power-add}
 use Rattle.galois.proofs.Product.{twice-closed}
-use Rattle.galois.proofs.Words.{digit-lt, odd-digit, remainder-lt, Degree}
+use Rattle.galois.proofs.Words.{digit-lt, odd-digit, bits-zero, remainder-lt, Degree}
 
 -- the syndrome of a number's lowest n bits
 abbrev pub value : Field → ℕ → ℕ → ℕ → ℕ
@@ -58,10 +58,6 @@ module _ {F : Field} (L : Laws F) where
   pub sum-zeros : (j i n : ℕ) → sumFrom F j i (replicate n false) ≡ 0
   sum-zeros j i zero = refl
   sum-zeros j i (suc n) = L .plus-zero _ (sum-element j (suc i) (replicate n false)) ∙ sum-zeros j (suc i) n
-
-  pub bits-zero : (n : ℕ) → bits n 0 ≡ replicate n false
-  bits-zero zero = refl
-  bits-zero (suc n) = ap (λ w. false ∷ w) (bits-zero n)
 
   pub value-zero : (j n : ℕ) → value F j n 0 ≡ 0
   value-zero j n = ap (syndrome F j) (bits-zero n) ∙ sum-zeros j 0 n

@@ -12,8 +12,8 @@ use lib.Dec.{eqb}
 use lib.ListN.{length, getD, replicate}
 use lib.Pow.{pow-mono, pow-pos, shr-shr}
 use Rattle.std.proofs.shelf.Tests.{eqb-true}
-use Rattle.galois.specs.Binary.{twice}
-use Rattle.galois.specs.Words.{digit, number, bits, multiple, remainder, systematic}
+use Rattle.galois.specs.Polynomials.{twice, digit, number, bits, multiple, remainder, Divided}
+use Rattle.galois.specs.Words.{systematic}
 use Rattle.galois.proofs.Additive.{bit-lt, bit-cases, twice-additive, xor-double, xor-swap}
 use Rattle.galois.proofs.Product.{twice-below, twice-closed}
 
@@ -53,6 +53,10 @@ bits-number (b ∷ w) =
     let rest : (number w * 2 + digit b) / 2 ≡ number w = omega arith in
     ap₂ (λ x y. eqb x 1 ∷ bits (length w) y) low rest ∙ ap₂ (λ x y. x ∷ y) (odd-digit b) (bits-number w)
 
+pub bits-zero : (n : ℕ) → bits n 0 ≡ replicate n false
+bits-zero zero = refl
+bits-zero (suc n) = ap (λ w. false ∷ w) (bits-zero n)
+
 -- place i of a number's bits
 pub getD-bits : (n a i : ℕ) → i < n → getD (bits n a) i false ≡ eqb (a / 2 ^ i % 2) 1
 getD-bits zero a i h = absurd (omega arith)
@@ -87,7 +91,7 @@ module _ {n g : ℕ} (D : Degree n g) where
   remainder-lt (b ∷ w) = xor-lt n (digit b) (twice n g (remainder n g w)) (digit-below b) (twice-closed n g (D .lo) (D .hi) (remainder n g w) (remainder-lt w))
 
   -- a word is a multiple of g, and its remainder
-  pub divides : (w : List Bool) → (q : List Bool) × (number w ≡ bitXor (multiple q g) (remainder n g w))
+  divides : (w : List Bool) → (q : List Bool) × (number w ≡ bitXor (multiple q g) (remainder n g w))
   divides [] = ([], refl)
   divides (b ∷ w) =
       let r = remainder n g w in
@@ -106,6 +110,9 @@ module _ {n g : ℕ} (D : Degree n g) where
           ∙ ap₂ bitXor (xor-comm t d) (sym (xor-assoc m s t) ∙ xor-comm (bitXor m s) t)
           ∙ xor-assoc d t (bitXor t (bitXor m s))
           ∙ ap (bitXor d) (sym (xor-assoc t t (bitXor m s)) ∙ ap (λ z. bitXor z (bitXor m s)) (xor-self t)))
+
+  pub divided : (w : List Bool) → Divided n g w (remainder n g w)
+  divided w = let d = divides w in record { quotient = d .0; whole = d .1; lower = remainder-lt w }
 
   -- the n lowest places stand in the remainder as they are
   pub remainder-low : (u rest : List Bool) → length u ≤ n → remainder n g (u ++ rest) ≡ bitXor (number u) (remainder n g (replicate (length u) false ++ rest))

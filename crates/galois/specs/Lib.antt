@@ -1,3 +1,4 @@
+pub mod Polynomials
 pub mod Field
 pub mod Binary
 pub mod Words

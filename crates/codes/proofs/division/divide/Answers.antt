@@ -2,7 +2,7 @@ use lib.ListN.{drop}
 use native.Mathlib.Omega.{arith}
 use Rattle.bch.specs.Codes.{parity, generator}
 use Rattle.bch.proofs.Roots.{degree}
-use Rattle.galois.proofs.Words.{remainder-lt}
+use Rattle.galois.proofs.Words.{divided, remainder-lt}
 use Rattle.codes.proofs.Dividing.{divide-none, divide-more, divide-all}
 use Rattle.codes.proofs.division.divide.Needs as need
 
@@ -17,4 +17,7 @@ loop-i-again c =
     divide-more (parity (c .args .code)) (generator (c .args .code)) (c .args .bits .now) (c .loop-i .i) (c .loop-i .rest) _ (c .loop-i-test .taken) (omega arith) (c .loop-i .inv) (c .divide-step-rest .ensures)
 
 pub returns : need.returns
-returns c = divide-all (parity (c .args .code)) (generator (c .args .code)) (c .args .bits .now) (c .loop-i .i) (c .loop-i .rest) (c .loop-i-test .left) (c .loop-i .inv)
+returns c =
+    let k = c .args .code in
+    let all = divide-all (parity k) (generator k) (c .args .bits .now) (c .loop-i .i) (c .loop-i .rest) (c .loop-i-test .left) (c .loop-i .inv) in
+    record { value = all; divided = rw all (divided (degree k) (c .args .bits .now)) }

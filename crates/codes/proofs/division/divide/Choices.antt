@@ -1,6 +1,6 @@
 use mathlib.Core.Path.{_≡_}
 use lib.ListN.{drop}
-use Rattle.galois.specs.Words.{remainder}
+use Rattle.galois.specs.Polynomials.{remainder}
 use Rattle.bch.specs.Codes.{parity, generator}
 use Rattle.codes.proofs.division.divide.Given as given
 

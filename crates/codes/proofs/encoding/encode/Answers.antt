@@ -33,7 +33,7 @@ filled c =
     let laid = subst (λ n. Laid (c .args .words .now) n (replicate 255 false) (c .lay-message .last .bits)) (c .parity .ensures) (c .lay-message .ensures) in
     built k (c .args .words .now) (c .lay-message .last .bits) (c .lay-parity .last .places) (c .divide-rest .result)
     (laid-payload k (c .args .words .now) (c .lay-message .last .bits) (message c) (c .lay-message .array-long) laid)
-    (c .divide-rest .ensures) (c .lay-parity .ensures)
+    (c .divide-rest .ensures .value) (c .lay-parity .ensures)
 
 pub fill-requires : need.fill-requires
 fill-requires c κs =

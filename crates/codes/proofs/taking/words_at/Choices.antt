@@ -1,7 +1,7 @@
 use mathlib.Core.Path.{_≡_}
 use Prim.Native.Nat.{ℕ, _+_, _*_, _<_}
 use lib.ListN.{length, getD, take, drop}
-use Rattle.galois.specs.Words.{number}
+use Rattle.galois.specs.Polynomials.{number}
 use Rattle.bch.specs.Messages.{messageWords, wordBits}
 use Rattle.codes.proofs.taking.words_at.Given as given
 
