@@ -7,7 +7,7 @@ ghost use Rattle.bch.specs.declared.code.Code.the-variants.{Two, Three};
 ghost use Rattle.bch.specs.Codes.{parity, generator, Codeword};
 ghost use Rattle.examples.specs.Ones.{onesAt};
 
-// A codeword of code 2 by the places that hold one: five, the fewest of any codeword but zero.
+// A codeword of code 2, by the places that hold one.
 pub fn light_codeword() -> [usize; 5]
     ensures { λ r. ⌜ Codeword Two (onesAt r) ⌝ }
 {
