@@ -2,5 +2,10 @@
 // The rules and their theory are in specs/ and proofs/; the code here names the two codes and their numbers.
 mod code;
 mod numbers;
+mod sizes;
 
 pub use code::Code;
+pub use sizes::MESSAGE_BITS;
+pub use sizes::MESSAGE_WORDS;
+pub use sizes::PLACES;
+pub use sizes::WORD_BITS;

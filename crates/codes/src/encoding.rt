@@ -6,6 +6,7 @@ use crate::message::is_message;
 use crate::message::lay_message;
 use crate::word::Word;
 use bch::Code;
+use bch::PLACES;
 use refusals::Refusal;
 
 // Fills the word with the one codeword under that code that carries the words.
@@ -17,7 +18,7 @@ pub fn encode(words: &[u32], number: u32, word: &mut Word) -> Result<(), Refusal
     if !is_message(words) {
         return Err(Refusal::NoMessage);
     }
-    let mut bits = [false; 255];
+    let mut bits = [false; PLACES];
     lay_message(words, code.parity(), &mut bits);
     let rest = divide(&bits, code);
     lay_parity(rest, code, &mut bits);

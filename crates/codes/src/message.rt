@@ -6,13 +6,12 @@ ghost use lib.ListN.{length};
 ghost use Rattle.bch.specs.Codes.{places};
 ghost use Rattle.bch.specs.Messages.{messageWords, wordBits, Message};
 ghost use Rattle.codes.specs.Steps.{Laid};
+use bch::MESSAGE_BITS;
+use bch::MESSAGE_WORDS;
+use bch::PLACES;
+use bch::WORD_BITS;
 
-pub const MESSAGE_WORDS: usize = 7;
-
-pub const WORD_BITS: usize = 32;
-
-pub const MESSAGE_BITS: usize = 224;
-
+// A word's kind is its top two bits.
 const KIND_SHIFT: u32 = 30;
 
 const MESSAGE_KIND: u32 = 1;
@@ -34,7 +33,7 @@ pub fn is_message(words: &[u32]) -> bool
 }
 
 // The message's bits written to their places, of which the first is `from`.
-pub fn lay_message(words: &[u32], from: usize, bits: &mut [bool; 255])
+pub fn lay_message(words: &[u32], from: usize, bits: &mut [bool; PLACES])
     requires count { ⌜ length (now words) ≡ messageWords ⌝ }
     requires room { ⌜ from + wordBits * messageWords ≤ places ⌝ }
     ensures { λ _. ⌜ Laid (now (words .entry)) from (now (bits .entry)) (now (bits .exit)) ⌝ }

@@ -8,14 +8,16 @@ ghost use Rattle.bch.specs.Codes.{places};
 ghost use Rattle.bch.specs.Messages.{wordBits, messageWords};
 ghost use Rattle.codes.specs.Steps.{Read, Empty};
 ghost use Rattle.codes.specs.Calls.{Takes, InAfterOut};
-use crate::message::MESSAGE_BITS;
-use crate::message::WORD_BITS;
 use crate::message::is_message;
 use crate::word::Word;
+use bch::MESSAGE_BITS;
+use bch::MESSAGE_WORDS;
+use bch::PLACES;
+use bch::WORD_BITS;
 use refusals::Refusal;
 
 // The number in the 32 places from `from` on.
-fn word_at(bits: &[bool; 255], from: usize) -> u32
+fn word_at(bits: &[bool; PLACES], from: usize) -> u32
     requires { ⌜ from + wordBits ≤ places ⌝ }
     ensures { λ r. ⌜ r ≡ number (take wordBits (drop from (now (bits .entry)))) ⌝ }
 {
@@ -27,23 +29,23 @@ fn word_at(bits: &[bool; 255], from: usize) -> u32
 }
 
 // The numbers that stand in the places from `from` on.
-fn words_at(bits: &[bool; 255], from: usize) -> [u32; 7]
+fn words_at(bits: &[bool; PLACES], from: usize) -> [u32; MESSAGE_WORDS]
     requires { ⌜ from + wordBits * messageWords ≤ places ⌝ }
     ensures { λ r. ⌜ Read (now (bits .entry)) from r ⌝ }
 {
-    let mut words = [0; 7];
-    for i in 0..7 {
+    let mut words = [0; MESSAGE_WORDS];
+    for i in 0..MESSAGE_WORDS {
         words[i] = word_at(bits, from + WORD_BITS * i);
     }
     words
 }
 
 // Whether the places from `from` on are empty.
-fn empty_from(bits: &[bool; 255], from: usize) -> bool
+fn empty_from(bits: &[bool; PLACES], from: usize) -> bool
     ensures yes { λ r. ⌜ (r ≡ true → Empty (now (bits .entry)) from) ⌝ }
     ensures no { λ r. ⌜ (r ≡ false → Empty (now (bits .entry)) from → ⊥) ⌝ }
 {
-    for i in from..255 {
+    for i in from..PLACES {
         if bits[i] {
             return false;
         }
@@ -52,7 +54,7 @@ fn empty_from(bits: &[bool; 255], from: usize) -> bool
 }
 
 // Writes the message that the word carries to the caller's memory.
-pub fn take_message(word: &Word, message: &mut [u32; 7]) -> Result<(), Refusal>
+pub fn take_message(word: &Word, message: &mut [u32; MESSAGE_WORDS]) -> Result<(), Refusal>
     ensures call { λ r. ⌜ Takes (now (word .entry)) (now (message .entry)) (now (message .exit)) r ⌝ }
     ensures in_after_out { λ _. ⌜ InAfterOut ⌝ }
 {

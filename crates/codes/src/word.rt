@@ -3,13 +3,14 @@ ghost use mathlib.Core.Path.{_≡_};
 ghost use lib.ListN.{length};
 ghost use Rattle.bch.specs.Codes.{places, Vanishes};
 use bch::Code;
+use bch::PLACES;
 
 mod methods;
 
 #[derive(Drop)]
 pub struct Word {
     code: Code,
-    bits: [bool; 255],
+    bits: [bool; PLACES],
     ghost long: { length bits ≡ places },
     ghost zeros: { Vanishes code bits },
 }

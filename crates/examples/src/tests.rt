@@ -1,3 +1,4 @@
+use bch::MESSAGE_WORDS;
 use codes::Word;
 use codes::encode;
 use codes::take_message;
@@ -5,7 +6,7 @@ use refusals::Refusal;
 use refusals::RefusalPartialEq;
 use std::test::*;
 
-const A: [u32; 7] = [
+const A: [u32; MESSAGE_WORDS] = [
     0x40000001,
     0x40000000,
     0x40000000,
@@ -15,7 +16,7 @@ const A: [u32; 7] = [
     0x40000000,
 ];
 
-const B: [u32; 7] = [
+const B: [u32; MESSAGE_WORDS] = [
     0x40000002,
     0x40000000,
     0x40000000,
@@ -37,9 +38,14 @@ fn low_places(word: &Word, count: usize) -> u32 {
 }
 
 // Encodes, compares the parity, and takes the message out again.
-fn goes_through(message: [u32; 7], code: u32, places: usize, parity: u32) -> Result<(), Fail> {
+fn goes_through(
+    message: [u32; MESSAGE_WORDS],
+    code: u32,
+    places: usize,
+    parity: u32,
+) -> Result<(), Fail> {
     let mut word = Word::new();
-    let mut out = [0; 7];
+    let mut out = [0; MESSAGE_WORDS];
     check(encode(&message, code, &mut word).is_ok())?;
     check_eq(word.code().number(), code)?;
     check_eq(low_places(&word, places), parity)?;
@@ -66,7 +72,7 @@ fn the_zero_word_carries_no_message() -> Result<(), Fail> {
 // A call that must be refused so, and leave the word as it was.
 fn refused(words: &[u32], code: u32, refusal: Refusal) -> Result<(), Fail> {
     let mut word = Word::new();
-    let mut out = [0; 7];
+    let mut out = [0; MESSAGE_WORDS];
     check(encode(&A, 3, &mut word).is_ok())?;
     check(encode(words, code, &mut word) == Err(refusal))?;
     check_eq(word.code().number(), 3)?;

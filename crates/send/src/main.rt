@@ -3,14 +3,14 @@
 ghost use Prim.Native.Nat.{_≤_};
 ghost use lib.ListN.{length};
 ghost use Rattle.std.specs.Vec.{made};
+use bch::PLACES;
 use std::io;
 use std::io::BufReader;
 use std::io::BufWriter;
 use std::io::Read;
 use std::io::Write;
+use wire::RECORD_BYTES;
 use wire::send_record;
-
-const RECORD: usize = 28;
 
 // Fills the buffer, or takes what is left of the input; returns how many bytes came.
 fn fill<R: Read>(input: &mut R, buf: &mut [u8]) -> io::Result<usize>
@@ -29,10 +29,10 @@ fn fill<R: Read>(input: &mut R, buf: &mut [u8]) -> io::Result<usize>
 
 // One record after the other, in constant memory. Nothing says that an input ends, so the records are counted.
 fn send_all<R: Read, W: Write>(input: &mut R, output: &mut W) -> io::Result<()> {
-    let mut record = [0; 28];
-    let mut samples = [0; 255];
+    let mut record = [0; RECORD_BYTES];
+    let mut samples = [0; PLACES];
     for _ in 0..u64::MAX {
-        if fill(input, &mut record)? < RECORD {
+        if fill(input, &mut record)? < RECORD_BYTES {
             break;
         }
         if send_record(&record, &mut samples).is_ok() {

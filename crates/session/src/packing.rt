@@ -7,8 +7,12 @@ ghost use Rattle.galois.specs.Polynomials.{number};
 ghost use Rattle.bch.specs.Codes.{places};
 ghost use Rattle.bch.specs.Messages.{bit};
 ghost use Rattle.session.specs.Packing.{packing};
+use bch::PLACES;
 
 const BYTE_BITS: usize = 8;
+
+// The bytes of a packed word.
+const PACKED_BYTES: usize = 32;
 
 // The number whose bit k is the bit at k.
 fn byte_of(bits: &[bool]) -> u8
@@ -23,14 +27,14 @@ fn byte_of(bits: &[bool]) -> u8
 }
 
 // The places of a word in bytes, eight to a byte, the lowest place at the lowest bit.
-pub fn packed(bits: &[bool; 255]) -> [u8; 32]
+pub fn packed(bits: &[bool; PLACES]) -> [u8; PACKED_BYTES]
     ensures bytes { λ r. ⌜ r ≡ packing (now (bits .entry)) ⌝ }
     ensures placed { λ r. ⌜ ((i : ℕ) → i < places → bit (i % 8) (getD r (i / 8) 0) ≡ getD (now (bits .entry)) i false) ⌝ }
 {
-    let mut bytes = [0; 32];
-    for j in 0..32 {
+    let mut bytes = [0; PACKED_BYTES];
+    for j in 0..PACKED_BYTES {
         let from = BYTE_BITS * j;
-        let end = (from + BYTE_BITS).min(255);
+        let end = (from + BYTE_BITS).min(PLACES);
         bytes[j] = byte_of(&bits[from..end]);
     }
     bytes

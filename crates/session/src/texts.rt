@@ -7,6 +7,7 @@ ghost use Rattle.std.specs.Written.{decimal};
 ghost use Rattle.refusals.specs.Refusals.{returned};
 ghost use Rattle.session.specs.Texts.{printed, numbersText, refusedText, wordsText, messageText, wordText, notUnderstoodText};
 use crate::packing::packed;
+use bch::PLACES;
 use refusals::Refusal;
 use script_text::push_bytes_text;
 use script_text::push_word_text;
@@ -75,7 +76,7 @@ pub(crate) fn push_message(words: &[u32], out: &mut Vec<u8>) -> Result<(), Alloc
 }
 
 // What a word that was filled prints.
-pub(crate) fn push_word(bits: &[bool; 255], out: &mut Vec<u8>) -> Result<(), AllocError>
+pub(crate) fn push_word(bits: &[bool; PLACES], out: &mut Vec<u8>) -> Result<(), AllocError>
     ensures { λ r. ⌜ made r (λ _. vec-items (now (out .exit)) ≡ vec-items (now (out .entry)) ++ printed (wordText (now (bits .entry)))) ⌝ }
 {
     out.extend_from_slice(b"word ")?;

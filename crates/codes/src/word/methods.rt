@@ -5,6 +5,7 @@ ghost use Rattle.bch.specs.Codes.{places, Codeword};
 ghost use Rattle.bch.specs.declared.code.Code.the-variants.{Two};
 use super::Word;
 use bch::Code;
+use bch::PLACES;
 
 impl Word {
     // All zero, under code 2.
@@ -14,7 +15,7 @@ impl Word {
     {
         Word {
             code: Code::Two,
-            bits: [false; 255],
+            bits: [false; PLACES],
         }
     }
 
@@ -25,14 +26,14 @@ impl Word {
     }
 
     // The bit at each place.
-    pub fn bits(&self) -> &[bool; 255]
+    pub fn bits(&self) -> &[bool; PLACES]
         ensures { λ r. ⌜ now r ≡ now (self .entry) .bits ⌝ }
     {
         &self.bits
     }
 
     // Becomes the given codeword: the one way to fill a word.
-    pub fn fill(&mut self, code: Code, bits: &[bool; 255])
+    pub fn fill(&mut self, code: Code, bits: &[bool; PLACES])
         requires { ⌜ Codeword code (now bits) ⌝ }
         ensures code { λ _. ⌜ now (self .exit) .code ≡ code ⌝ }
         ensures bits { λ _. ⌜ now (self .exit) .bits ≡ now (bits .entry) ⌝ }

@@ -9,6 +9,7 @@ use crate::texts::push_message;
 use crate::texts::push_not_understood;
 use crate::texts::push_refusal;
 use crate::texts::push_word;
+use bch::MESSAGE_WORDS;
 use codes::encode;
 use codes::take_message;
 use script_text::Line;
@@ -39,7 +40,7 @@ impl Session {
     fn take_row(&mut self, heap: Global, out: &mut Vec<u8>) -> Result<(), AllocError>
         ensures { λ r. ⌜ made r (λ _. Adds (TakeLine (now (self .entry)) (now (self .exit))) (vec-items (now (out .entry))) (vec-items (now (out .exit)))) ⌝ }
     {
-        let mut message = [0; 7];
+        let mut message = [0; MESSAGE_WORDS];
         let taken = take_message(&self.word, &mut message);
         self.count(taken.is_ok());
         match taken {
