@@ -8,6 +8,7 @@ use lib.Dec.{eqb}
 use lib.ListN.{length, take, drop, replicate, length-append, take-append-drop}
 use Rattle.std.proofs.shelf.Lists.{length-take-le, length-replicate}
 use Rattle.std.proofs.shelf.Tests.{eqb-true, leb-true}
+use Rattle.galois.specs.Field.{nonzeros}
 use Rattle.galois.specs.Polynomials.{bits, remainder}
 use Rattle.galois.specs.Words.{syndrome, systematic}
 use Rattle.galois.proofs.Primitive.{every, every-at}
@@ -17,7 +18,7 @@ use Rattle.field.specs.Bytes.{bytes}
 use Rattle.field.proofs.Tables.{bytes-laws}
 use Rattle.bch.specs.declared.code.Code.{Code}
 use Rattle.bch.specs.declared.code.Code.the-variants.{Two, Three}
-use Rattle.bch.specs.Codes.{places, codeNumber, parity, generator, Codeword}
+use Rattle.bch.specs.Codes.{places, codeNumber, parity, generator, Codeword, Generates, Checks}
 use Rattle.bch.proofs.Roots.{root, degree, determined}
 
 pub parity-below : (k : Code) → parity k ≤ places
@@ -52,6 +53,15 @@ module _ (k : Code) where
 
   pub zero-codeword : Codeword k (replicate places false)
   zero-codeword = record { long = length-replicate places false; zeros = λ j h m. sum-zeros bytes-laws j 0 places }
+
+-- what the generator of a code is good for
+pub generates : (k : Code) (g : ℕ) → g ≡ generator k → Generates k g × Checks k g
+generates k g e = rw e ((λ w l. (codeword-divisible k w, divisible-codeword k w l)), codeword-systematic k)
+
+-- a word has a place for each power of α
+pub place-powers : places ≡ nonzeros bytes
+unfolding bytes
+place-powers = refl
 
 -- a word whose syndromes are computed and found zero
 pub computed-codeword : (k : Code) (w : List Bool) → length w ≡ places → every (λ i. eqb (syndrome bytes (suc i) w) 0) (2 * codeNumber k) ≡ true → Codeword k w

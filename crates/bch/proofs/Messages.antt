@@ -10,12 +10,12 @@ use lib.ListN.{length, getD, take, drop, replicate, length-append, length-drop}
 use Rattle.std.specs.Joined.{joined}
 use Rattle.std.proofs.shelf.Lists.{length-replicate, getD-replicate, getD-append-left, getD-append-right, getD-drop, getD-take, length-take-le, drop-at, ext-getD}
 use Rattle.std.proofs.shelf.Tests.{cases-lt}
-use Rattle.galois.specs.Polynomials.{bits, number}
+use Rattle.galois.specs.Polynomials.{bits, number, bit}
 use Rattle.galois.proofs.Words.{length-bits, getD-bits, bits-injective, bit-number, number-lt}
 use Rattle.bch.specs.declared.code.Code.{Code}
 use Rattle.bch.specs.declared.code.Code.the-variants.{Two, Three}
 use Rattle.bch.specs.Codes.{places, parity}
-use Rattle.bch.specs.Messages.{messageWords, wordBits, kind, messageKind, bit, Message, spareFrom, Carries, payload}
+use Rattle.bch.specs.Messages.{messageWords, wordBits, kind, messageKind, Message, spareFrom, Carries, payload}
 
 -- a word of the message's kind has 31 bits
 pub kind-below : (x : ℕ) → kind x ≡ messageKind → x < 2 ^ wordBits

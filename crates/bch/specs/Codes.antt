@@ -3,10 +3,11 @@ use mathlib.Core.Path.{_≡_}
 use mathlib.Core.Bool.{Bool}
 use mathlib.Core.List.{List}
 use Prim.Native.Nat.{ℕ, _*_, _≤_}
-use lib.ListN.{length}
+use lib.ListN.{length, drop}
 use Rattle.std.specs.declared.result.Result.{Result}
 use Rattle.std.specs.declared.result.Result.the-variants.{Ok, Err}
-use Rattle.galois.specs.Words.{syndrome}
+use Rattle.galois.specs.Polynomials.{remainder}
+use Rattle.galois.specs.Words.{systematic, syndrome}
 use Rattle.field.specs.Bytes.{bytes}
 use Rattle.refusals.specs.declared.refusal.Refusal.{Refusal}
 use Rattle.refusals.specs.declared.refusal.Refusal.the-variants.{UnknownCode}
@@ -17,7 +18,7 @@ use Rattle.bch.specs.declared.code.Code.the-variants.{Two, Three}
 abbrev pub places : ℕ
 places = 255
 
--- the code number: how many errors the code corrects at least
+-- the code number t: the number of errors that the code is designed for
 abbrev pub codeNumber : Code → ℕ
 codeNumber Two = 2
 codeNumber Three = 3
@@ -49,3 +50,11 @@ Vanishes k w = (j : ℕ) → 1 ≤ j → j ≤ 2 * codeNumber k → syndrome byt
 pub record Codeword (k : Code) (w : List Bool) : Type 0 where
   pub long : length w ≡ places
   pub zeros : Vanishes k w
+
+-- g generates the code k: a word of 255 places is a codeword exactly when g leaves no remainder of it
+abbrev pub Generates : Code → ℕ → Type 0
+Generates k g = (w : List Bool) → length w ≡ places → (Codeword k w → remainder (parity k) g w ≡ 0) × (remainder (parity k) g w ≡ 0 → Codeword k w)
+
+-- a codeword's parity places are the remainder of its rest on division by g, so codewords that agree above parity are equal
+abbrev pub Checks : Code → ℕ → Type 0
+Checks k g = (w : List Bool) → Codeword k w → w ≡ systematic (parity k) g (drop (parity k) w)

@@ -6,7 +6,7 @@ use Prim.Native.Nat.{ℕ, _+_, _-_, _*_, _/_, _%_, _^_, _<_, _≤_}
 use lib.Dec.{eqb}
 use lib.ListN.{length, getD, replicate}
 use Rattle.std.specs.Joined.{joined}
-use Rattle.galois.specs.Polynomials.{bits}
+use Rattle.galois.specs.Polynomials.{bits, bit}
 use Rattle.galois.specs.Words.{systematic}
 use Rattle.bch.specs.declared.code.Code.{Code}
 use Rattle.bch.specs.Codes.{places, parity, generator}
@@ -26,10 +26,6 @@ kind x = x / 2 ^ 30
 abbrev pub messageKind : ℕ
 messageKind = 1
 
--- bit b of a number, bit 0 the lowest
-abbrev pub bit : ℕ → ℕ → Bool
-bit b x = eqb (x / 2 ^ b % 2) 1
-
 -- a message: as many words as a message has, each of the message's kind
 pub record Message (m : List ℕ) : Type 0 where
   pub words : length m ≡ messageWords
@@ -39,11 +35,19 @@ pub record Message (m : List ℕ) : Type 0 where
 abbrev pub spareFrom : Code → ℕ
 spareFrom k = parity k + wordBits * messageWords
 
--- the word w carries the message m under the code k: bit b of word i stands at its place, and the spare places are empty
+-- the words m stand in the places from `from` on: bit b of word i at its place
+abbrev pub Placed : ℕ → List ℕ → List Bool → Type 0
+Placed from m w = (i b : ℕ) → i < messageWords → b < wordBits → getD w (from + wordBits * i + b) false ≡ bit b (getD m i 0)
+
+-- no place from `from` on holds one
+abbrev pub Empty : ℕ → List Bool → Type 0
+Empty from w = (i : ℕ) → from ≤ i → i < places → getD w i false ≡ false
+
+-- the word w carries the message m under the code k: its words stand above the parity places, and the spare places are empty
 pub record Carries (k : Code) (m : List ℕ) (w : List Bool) : Type 0 where
   pub message : Message m
-  pub placed : (i b : ℕ) → i < messageWords → b < wordBits → getD w (parity k + wordBits * i + b) false ≡ bit b (getD m i 0)
-  pub spare : (i : ℕ) → spareFrom k ≤ i → i < places → getD w i false ≡ false
+  pub placed : Placed (parity k) m w
+  pub spare : Empty (spareFrom k) w
 
 -- the places above parity for the words m: their bits, lowest first, word after word, and then the spare places
 abbrev pub payload : Code → List ℕ → List Bool

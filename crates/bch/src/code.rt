@@ -1,4 +1,4 @@
-// The two codes, by how many errors each corrects at least: that is its code number.
+// The two codes, by the number of errors that each is designed for: that is its code number.
 #[derive(Clone, Copy, PartialEq, Eq, Debug)]
 pub enum Code {
     // BCH (255,239)

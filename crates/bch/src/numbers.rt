@@ -1,5 +1,7 @@
 ghost use mathlib.Core.Path.{_≡_};
-ghost use Rattle.bch.specs.Codes.{codeNumber, parity, generator, CodeOf};
+ghost use Rattle.galois.specs.Field.{nonzeros};
+ghost use Rattle.field.specs.Bytes.{bytes};
+ghost use Rattle.bch.specs.Codes.{places, codeNumber, parity, generator, CodeOf, Generates, Checks};
 use super::code::Code;
 use refusals::Refusal;
 
@@ -36,7 +38,10 @@ impl Code {
 
     // The generator polynomial, bit i the coefficient of x^i.
     pub fn generator(self) -> u32
-        ensures { λ r. ⌜ r ≡ generator self ⌝ }
+        ensures value { λ r. ⌜ r ≡ generator self ⌝ }
+        ensures generates { λ r. ⌜ Generates self r ⌝ }
+        ensures checks { λ r. ⌜ Checks self r ⌝ }
+        ensures places { λ _. ⌜ places ≡ nonzeros bytes ⌝ }
     {
         match self {
             Code::Two => 0x16F63,

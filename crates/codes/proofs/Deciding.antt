@@ -8,11 +8,9 @@ use native.Mathlib.Omega.{arith}
 use lib.ListN.{length, getD, drop, replicate}
 use Rattle.std.specs.declared.result.Result.{Result}
 use Rattle.std.specs.declared.result.Result.the-variants.{Ok, Err}
-use Rattle.std.proofs.shelf.Tests.{false≢true, true≢false}
 use Rattle.std.proofs.shelf.Lists.{getD-append-left, getD-replicate, length-replicate, drop-at, length-append}
 use Rattle.refusals.specs.declared.refusal.Refusal.{Refusal}
 use Rattle.refusals.specs.declared.refusal.Refusal.the-variants.{UnknownCode, NoMessage}
-use Rattle.refusals.specs.Refusals.{returned}
 use Rattle.galois.specs.Polynomials.{bits, remainder}
 use Rattle.bch.specs.declared.code.Code.{Code}
 use Rattle.bch.specs.Codes.{places, NoCode, codeNumber, parity, generator, Codeword}
@@ -21,38 +19,34 @@ use Rattle.bch.proofs.Codewords.{parity-below}
 use Rattle.bch.proofs.Messages.{payload-carries, carriers-equal, carried-once, length-payload}
 use Rattle.bch.proofs.Encoding.{encoding-codeword, encoding-carries, encoding-only}
 use Rattle.codes.specs.declared.word.Word.{Word}
-use Rattle.codes.specs.Steps.{Laid, Empty}
-use Rattle.codes.specs.Calls.{Encodes, Encoded, Takes}
+use Rattle.codes.specs.Steps.{Laid}
+use Rattle.codes.specs.Calls.{Encodes}
 
 pub refuse-code : (words : List ℕ) (number : ℕ) (word : Word) → NoCode number → Encodes words number word word (Err UnknownCode)
-refuse-code words number word none = record {
-  decided = inl (record { refusal = UnknownCode; fits = inl (refl, none); first = ((λ l. absurd (omega arith)), ((λ l. absurd (omega arith)), tt)); is = refl });
-  refused = λ _. refl;
-  accepted = λ e. absurd (false≢true e);
-}
+refuse-code words number word none = (
+  record { refusal = UnknownCode; fits = inl (refl, none); first = ((λ l. absurd (omega arith)), ((λ l. absurd (omega arith)), tt)); is = refl },
+  refl,
+)
 
 pub refuse-message : (words : List ℕ) (number : ℕ) (word : Word) (k : Code) → codeNumber k ≡ number → (Message words → ⊥) → Encodes words number word word (Err NoMessage)
-refuse-message words number word k is not = record {
-  decided = inl (record { refusal = NoMessage; fits = inr (inl (refl, not)); first = ((λ _ none. none k is), ((λ l. absurd (omega arith)), tt)); is = refl });
-  refused = λ _. refl;
-  accepted = λ e. absurd (false≢true e);
-}
+refuse-message words number word k is not = (
+  record { refusal = NoMessage; fits = inr (inl (refl, not)); first = ((λ _ none. none k is), ((λ l. absurd (omega arith)), tt)); is = refl },
+  refl,
+)
 
 pub accept : (words : List ℕ) (number : ℕ) (old new : Word) (k : Code) → codeNumber k ≡ number → Message words → new .code ≡ k → new .bits ≡ encoding k words
     → Encodes words number old new (Ok tt)
-accept words number old new k is message code built =
-    let parity : new .bits ≡ encoding (new .code) words = built ∙ ap (λ q. encoding q words) (sym code) in
-    record {
-      decided = inr (((λ none. none k is), ((λ not. not message), tt)), refl);
-      refused = λ e. absurd (false≢true e);
-      accepted = λ _. record {
+accept words number old new k is message code filled =
+    let built : new .bits ≡ encoding (new .code) words = filled ∙ ap (λ q. encoding q words) (sym code) in (
+      ((λ none. none k is), ((λ not. not message), tt)),
+      record {
         code = ap codeNumber code ∙ is;
         codeword = record { long = new .long; zeros = new .zeros };
-        carries = subst (Carries (new .code) words) (sym parity) (encoding-carries (new .code) words message);
-        only = λ w c h. encoding-only (new .code) words w c h ∙ sym parity;
-        parity = parity;
-      };
-    }
+        carries = subst (Carries (new .code) words) (sym built) (encoding-carries (new .code) words message);
+        only = λ w c h. encoding-only (new .code) words w c h ∙ sym built;
+        built = built;
+      },
+    )
 
 -- the message laid into an empty word stands above empty parity places
 pub laid-payload : (k : Code) (m : List ℕ) (w : List Bool) → Message m → length w ≡ places → Laid m (parity k) (replicate places false) w → w ≡ replicate (parity k) false ++ payload k m

@@ -10,9 +10,8 @@ use lib.ListN.{length, getD, drop, length-append, length-drop}
 use mir.Val.{boolByte}
 use Rattle.std.proofs.shelf.Lists.{drop-more, drop-all, ext-getD, getD-append-left, getD-append-right, getD-drop}
 use Rattle.std.proofs.shelf.Tests.{cases-lt}
-use Rattle.galois.specs.Polynomials.{twice, digit, bits, remainder}
+use Rattle.galois.specs.Polynomials.{twice, digit, bits, remainder, bit}
 use Rattle.galois.proofs.Words.{length-bits, getD-bits}
-use Rattle.bch.specs.Messages.{bit}
 
 pub byte-digit : (b : Bool) → boolByte b ≡ digit b
 byte-digit true = refl

@@ -9,17 +9,16 @@ use lib.ListN.{length, getD, take, drop, length-take}
 use Rattle.std.specs.declared.result.Result.the-variants.{Ok, Err}
 use lib.Pow.{pow-mono}
 use Rattle.std.proofs.shelf.Lists.{drop-more, ext-getD}
-use Rattle.std.proofs.shelf.Tests.{false≢true}
 use Rattle.refusals.specs.declared.refusal.Refusal.the-variants.{NoMessage}
-use Rattle.galois.specs.Polynomials.{digit, number}
+use Rattle.galois.specs.Polynomials.{digit, number, bit}
 use Rattle.galois.proofs.Words.{number-lt}
 use Rattle.bch.specs.declared.code.Code.{Code}
 use Rattle.bch.specs.Codes.{places, parity}
-use Rattle.bch.specs.Messages.{messageWords, wordBits, bit, Message, Carries, spareFrom}
+use Rattle.bch.specs.Messages.{messageWords, wordBits, Message, Carries, spareFrom, Empty}
 use Rattle.bch.proofs.Messages.{carried-read, carried-once, read-bit}
 use Rattle.codes.specs.declared.word.Word.{Word}
-use Rattle.codes.specs.Steps.{Read, Empty}
-use Rattle.codes.specs.Calls.{Takes, takeCauses}
+use Rattle.codes.specs.Steps.{Read}
+use Rattle.codes.specs.Calls.{Takes}
 
 -- a number read so far, from its highest place down to place b
 abbrev pub readFrom : List Bool → ℕ → ℕ → ℕ
@@ -49,7 +48,7 @@ carried-words k w m read long r c =
     ext-getD 0 m read (c .message .words ∙ sym (r .count))
     (λ i h. let hi : i < messageWords = omega (arith, c .message .words) in carried-read k w long i hi m c ∙ sym (r .at i hi))
 
-pub read-carries : (k : Code) (w : List Bool) (read : List ℕ) → length w ≡ places → Read w (parity k) read → Message read → Empty w (spareFrom k) → Carries k read w
+pub read-carries : (k : Code) (w : List Bool) (read : List ℕ) → length w ≡ places → Read w (parity k) read → Message read → Empty (spareFrom k) w → Carries k read w
 read-carries k w read long r message empty = record {
   message = message;
   placed = λ i b hi hb. read-bit k w long i hi b hb ∙ ap (bit b) (sym (r .at i hi));
@@ -57,17 +56,10 @@ read-carries k w read long r message empty = record {
 }
 
 pub refuse-take : (word : Word) (memory : List ℕ) → ((m : List ℕ) → Carries (word .code) m (word .bits) → ⊥) → Takes word memory memory (Err NoMessage)
-refuse-take word memory none = record {
-  decided = inl (record { refusal = NoMessage; fits = inl (refl, none); first = ((λ l. absurd (omega arith)), tt); is = refl });
-  refused = λ _. refl;
-  accepted = λ e. absurd (false≢true e);
-  only = λ e. absurd (false≢true e);
-}
+refuse-take word memory none = (record { refusal = NoMessage; fits = inl (refl, none); first = ((λ l. absurd (omega arith)), tt); is = refl }, refl)
 
 pub accept-take : (word : Word) (memory read : List ℕ) → Carries (word .code) read (word .bits) → Takes word memory read (Ok tt)
-accept-take word memory read carries = record {
-  decided = inr (((λ none. none read carries), tt), refl);
-  refused = λ e. absurd (false≢true e);
-  accepted = λ _. carries;
-  only = λ _ m c. carried-once (word .code) (word .bits) (word .long) m read c carries;
-}
+accept-take word memory read carries = (
+  ((λ none. none read carries), tt),
+  record { carries = carries; only = λ m c. carried-once (word .code) (word .bits) (word .long) m read c carries },
+)

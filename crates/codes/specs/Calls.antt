@@ -1,16 +1,23 @@
--- What encoding and taking a message out do, for every input, and that each undoes the other. Assumes nothing.
+-- What a new word is, what encoding and taking a message out do for every input, and that each undoes the other. Assumes nothing.
 use mathlib.Core.Path.{_≡_}
-use mathlib.Core.Bool.{Bool, true}
+use mathlib.Core.Bool.{Bool, true, false}
 use mathlib.Core.List.{List, [], _∷_}
 use Prim.Native.Nat.{ℕ}
+use lib.ListN.{replicate}
 use Rattle.std.specs.declared.result.Result.{Result}
-use Rattle.std.specs.Results.{isOk, isErr}
+use Rattle.std.specs.Results.{isOk}
 use Rattle.refusals.specs.declared.refusal.Refusal.{Refusal}
 use Rattle.refusals.specs.declared.refusal.Refusal.the-variants.{UnknownCode, NoMessage}
-use Rattle.refusals.specs.Refusals.{Causes, Decides, outcome, nothing}
-use Rattle.bch.specs.Codes.{NoCode, codeNumber, Codeword}
+use Rattle.refusals.specs.Refusals.{Causes, Decides}
+use Rattle.bch.specs.declared.code.Code.the-variants.{Two}
+use Rattle.bch.specs.Codes.{places, NoCode, codeNumber, Codeword}
 use Rattle.bch.specs.Messages.{Message, Carries, encoding}
 use Rattle.codes.specs.declared.word.Word.{Word}
+
+-- a new word: all zero, under code 2
+pub record New (word : Word) : Type 0 where
+  pub code : word .code ≡ Two
+  pub bits : word .bits ≡ replicate places false
 
 -- Encoding is refused where no code has the number, and where the words are no message.
 abbrev pub encodeCauses : ℕ → List ℕ → Causes
@@ -22,25 +29,25 @@ pub record Encoded (words : List ℕ) (number : ℕ) (word : Word) : Type 0 wher
   pub codeword : Codeword (word .code) (word .bits)
   pub carries : Carries (word .code) words (word .bits)
   pub only : (w : List Bool) → Codeword (word .code) w → Carries (word .code) words w → w ≡ word .bits
-  -- its parity places are the remainder of the rest
-  pub parity : word .bits ≡ encoding (word .code) words
+  -- the words in their places, and the remainder of the rest in the parity places below
+  pub built : word .bits ≡ encoding (word .code) words
 
 -- encoding: the words and the code number, the caller's word before and after, and the answer
-pub record Encodes (words : List ℕ) (number : ℕ) (old new : Word) (answer : Result (Unit {0}) Refusal) : Type 0 where
-  pub decided : Decides (encodeCauses number words) (0 ∷ []) (outcome nothing answer)
-  pub refused : isErr answer ≡ true → new ≡ old
-  pub accepted : isOk answer ≡ true → Encoded words number new
+abbrev pub Encodes : List ℕ → ℕ → Word → Word → Result (Unit {0}) Refusal → Type 0
+Encodes words number old new answer = Decides (encodeCauses number words) (λ _ word. Encoded words number word) old new answer
 
 -- Taking a message out is refused where the word carries none.
 abbrev pub takeCauses : Word → Causes
 takeCauses word = (NoMessage, ((m : List ℕ) → Carries (word .code) m (word .bits) → ⊥)) ∷ []
 
+-- the words are what the word carries, and it carries no others
+pub record Taken (word : Word) (words : List ℕ) : Type 0 where
+  pub carries : Carries (word .code) words (word .bits)
+  pub only : (m : List ℕ) → Carries (word .code) m (word .bits) → m ≡ words
+
 -- taking a message out: the word, the caller's memory before and after, and the answer
-pub record Takes (word : Word) (old new : List ℕ) (answer : Result (Unit {0}) Refusal) : Type 0 where
-  pub decided : Decides (takeCauses word) (0 ∷ []) (outcome nothing answer)
-  pub refused : isErr answer ≡ true → new ≡ old
-  pub accepted : isOk answer ≡ true → Carries (word .code) new (word .bits)
-  pub only : isOk answer ≡ true → (m : List ℕ) → Carries (word .code) m (word .bits) → m ≡ new
+abbrev pub Takes : Word → List ℕ → List ℕ → Result (Unit {0}) Refusal → Type 0
+Takes word old new answer = Decides (takeCauses word) (λ _ words. Taken word words) old new answer
 
 -- a message that was encoded comes out again
 abbrev pub OutAfterIn : Type 0

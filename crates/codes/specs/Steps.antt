@@ -5,12 +5,11 @@ use mathlib.Core.List.{List}
 use Prim.Native.Nat.{ℕ, _+_, _*_, _<_, _≤_}
 use lib.ListN.{length, getD, take, drop}
 use Rattle.galois.specs.Polynomials.{number}
-use Rattle.bch.specs.Codes.{places}
-use Rattle.bch.specs.Messages.{messageWords, wordBits, bit}
+use Rattle.bch.specs.Messages.{messageWords, wordBits, Placed}
 
 -- the words m written into the places from `from` on, and no other place changed
 pub record Laid (m : List ℕ) (from : ℕ) (old new : List Bool) : Type 0 where
-  pub placed : (i b : ℕ) → i < messageWords → b < wordBits → getD new (from + wordBits * i + b) false ≡ bit b (getD m i 0)
+  pub placed : Placed from m new
   pub below : (i : ℕ) → i < from → getD new i false ≡ getD old i false
   pub above : (i : ℕ) → from + wordBits * messageWords ≤ i → getD new i false ≡ getD old i false
 
@@ -18,7 +17,3 @@ pub record Laid (m : List ℕ) (from : ℕ) (old new : List Bool) : Type 0 where
 pub record Read (w : List Bool) (from : ℕ) (m : List ℕ) : Type 0 where
   pub count : length m ≡ messageWords
   pub at : (i : ℕ) → i < messageWords → getD m i 0 ≡ number (take wordBits (drop (from + wordBits * i) w))
-
--- no place from `from` on holds one
-abbrev pub Empty : List Bool → ℕ → Type 0
-Empty w from = (i : ℕ) → from ≤ i → i < places → getD w i false ≡ false

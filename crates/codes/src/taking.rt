@@ -5,8 +5,8 @@ ghost use Prim.Native.Nat.{ℕ, _+_, _*_, _<_, _≤_};
 ghost use lib.ListN.{length, getD, take, drop};
 ghost use Rattle.galois.specs.Polynomials.{number};
 ghost use Rattle.bch.specs.Codes.{places};
-ghost use Rattle.bch.specs.Messages.{wordBits, messageWords};
-ghost use Rattle.codes.specs.Steps.{Read, Empty};
+ghost use Rattle.bch.specs.Messages.{wordBits, messageWords, Empty};
+ghost use Rattle.codes.specs.Steps.{Read};
 ghost use Rattle.codes.specs.Calls.{Takes, InAfterOut};
 use crate::message::is_message;
 use crate::word::Word;
@@ -42,8 +42,8 @@ fn words_at(bits: &[bool; PLACES], from: usize) -> [u32; MESSAGE_WORDS]
 
 // Whether the places from `from` on are empty.
 fn empty_from(bits: &[bool; PLACES], from: usize) -> bool
-    ensures yes { λ r. ⌜ (r ≡ true → Empty (now (bits .entry)) from) ⌝ }
-    ensures no { λ r. ⌜ (r ≡ false → Empty (now (bits .entry)) from → ⊥) ⌝ }
+    ensures yes { λ r. ⌜ (r ≡ true → Empty from (now (bits .entry))) ⌝ }
+    ensures no { λ r. ⌜ (r ≡ false → Empty from (now (bits .entry)) → ⊥) ⌝ }
 {
     for i in from..PLACES {
         if bits[i] {

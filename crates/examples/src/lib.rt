@@ -7,17 +7,19 @@ ghost use Rattle.bch.specs.declared.code.Code.the-variants.{Two, Three};
 ghost use Rattle.bch.specs.Codes.{parity, generator, Codeword};
 ghost use Rattle.examples.specs.Ones.{onesAt};
 
-// A codeword of code 2, by the places that hold one.
+// The places that hold one in a codeword of code 2.
 pub fn light_codeword() -> [usize; 5]
-    ensures { λ r. ⌜ Codeword Two (onesAt r) ⌝ }
+    ensures places { λ r. ⌜ r ≡ 0 ∷ 68 ∷ 102 ∷ 119 ∷ 136 ∷ [] ⌝ }
+    ensures codeword { λ r. ⌜ Codeword Two (onesAt r) ⌝ }
 {
     [0, 68, 102, 119, 136]
 }
 
 // What x^16 leaves on division by the generator of code 2, and x^24 by that of code 3.
 pub fn first_remainders() -> [u32; 2]
-    ensures two { λ r. ⌜ getD r 0 0 ≡ remainder (parity Two) (generator Two) (onesAt (16 ∷ [])) ⌝ }
-    ensures three { λ r. ⌜ getD r 1 0 ≡ remainder (parity Three) (generator Three) (onesAt (24 ∷ [])) ⌝ }
+    ensures values { λ r. ⌜ r ≡ 0x6F63 ∷ 0xBBA1B5 ∷ [] ⌝ }
+    ensures two { λ r. ⌜ remainder (parity Two) (generator Two) (onesAt (16 ∷ [])) ≡ getD r 0 0 ⌝ }
+    ensures three { λ r. ⌜ remainder (parity Three) (generator Three) (onesAt (24 ∷ [])) ≡ getD r 1 0 ⌝ }
 {
     [0x6F63, 0xBBA1B5]
 }

@@ -4,6 +4,7 @@ use codes::encode;
 use codes::take_message;
 use refusals::Refusal;
 use refusals::RefusalPartialEq;
+use refusals::outcome_number;
 use std::test::*;
 
 const A: [u32; MESSAGE_WORDS] = [
@@ -89,6 +90,14 @@ fn refusals_leave_the_word() -> Result<(), Fail> {
     refused(&wrong, 2, Refusal::NoMessage)?;
     refused(&B[0..6], 2, Refusal::NoMessage)?;
     refused(&[], 3, Refusal::NoMessage)
+}
+
+#[test]
+fn outcomes_have_their_numbers() -> Result<(), Fail> {
+    let mut word = Word::new();
+    check_eq(outcome_number(&encode(&A, 2, &mut word)), 0)?;
+    check_eq(outcome_number(&encode(&A, 5, &mut word)), 1)?;
+    check_eq(outcome_number(&encode(&A[0..1], 3, &mut word)), 5)
 }
 
 #[test]

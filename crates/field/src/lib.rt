@@ -529,6 +529,7 @@ static LOGARITHMS: [u8; 256] = [
 // α^k, for every k.
 pub fn power(k: u32) -> Element
     ensures value { λ r. ⌜ r ≡ bytes .power k ⌝ }
+    ensures alpha { λ _. ⌜ bytes .power 1 ≡ 2 ⌝ }
     ensures laws { λ _. ⌜ Laws bytes ⌝ }
 {
     POWERS[(k % 255) as usize]

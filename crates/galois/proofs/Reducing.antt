@@ -9,7 +9,7 @@ use lib.Bits.{bitXor, xor-zero-r}
 use lib.Dec.{eqb}
 use lib.ListN.{length, replicate}
 use lib.Pow.{pow-mono}
-use Rattle.galois.specs.Polynomials.{digit, number, bits, multiple, twice, remainder}
+use Rattle.galois.specs.Polynomials.{digit, number, bits, carryless, twice, remainder}
 use Rattle.galois.specs.Binary.{product}
 use Rattle.galois.proofs.Additive.{additive-zero, twice-additive, xor-odd, xor-half, xor-swap, bit-lt, bit-product-lt}
 use Rattle.galois.proofs.Product.{productOf, stepped}
@@ -55,15 +55,15 @@ module _ {n p : ℕ} (D : Degree n p) where
       let half : x * 2 / 2 ≡ x = omega arith in
       ap₂ (λ c y. bitXor (digit (eqb c 1)) (twice n p (remainder n p (bits m y)))) even half
 
-  multiple-stepped : (k a b : ℕ) → b < 2 ^ n → remainder n p (bits (n + k) (multiple (bits k a) b)) ≡ productOf n p k a b
-  multiple-stepped zero a b l = ap (remainder n p) (bits-zero (n + 0)) ∙ remainder-zeros (n + 0)
-  multiple-stepped (suc k) a b l =
-      let M = multiple (bits k (a / 2)) b in
+  carryless-stepped : (k a b : ℕ) → b < 2 ^ n → remainder n p (bits (n + k) (carryless (bits k a) b)) ≡ productOf n p k a b
+  carryless-stepped zero a b l = ap (remainder n p) (bits-zero (n + 0)) ∙ remainder-zeros (n + 0)
+  carryless-stepped (suc k) a b l =
+      let M = carryless (bits k (a / 2)) b in
       ap (λ c. remainder n p (bits (n + suc k) (bitXor (c * b) (M * 2)))) (digit-odd a)
       ∙ remainder-xor (n + suc k) (a % 2 * b) (M * 2)
       ∙ ap₂ bitXor
       (remainder-small (suc k) (a % 2 * b) (bit-product-lt (2 ^ n) (a % 2) b (bit-lt a) l))
-      (ap (λ m. remainder n p (bits m (M * 2))) (add-suc n k) ∙ remainder-double (n + k) M ∙ ap (twice n p) (multiple-stepped k (a / 2) b l))
+      (ap (λ m. remainder n p (bits m (M * 2))) (add-suc n k) ∙ remainder-double (n + k) M ∙ ap (twice n p) (carryless-stepped k (a / 2) b l))
 
   pub product-stepped : (a b : ℕ) → b < 2 ^ n → product n p a b ≡ stepped n p a b
-  product-stepped a b l = multiple-stepped n a b l
+  product-stepped a b l = carryless-stepped n a b l

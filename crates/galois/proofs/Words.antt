@@ -12,7 +12,7 @@ use lib.Dec.{eqb}
 use lib.ListN.{length, getD, replicate}
 use lib.Pow.{pow-mono, pow-pos, shr-shr}
 use Rattle.std.proofs.shelf.Tests.{eqb-true}
-use Rattle.galois.specs.Polynomials.{twice, digit, number, bits, multiple, remainder, Divided}
+use Rattle.galois.specs.Polynomials.{twice, digit, number, bits, carryless, remainder, Divided}
 use Rattle.galois.specs.Words.{systematic}
 use Rattle.galois.proofs.Additive.{bit-lt, bit-cases, twice-additive, xor-double, xor-swap}
 use Rattle.galois.proofs.Product.{twice-below, twice-closed}
@@ -91,7 +91,7 @@ module _ {n g : ℕ} (D : Degree n g) where
   remainder-lt (b ∷ w) = xor-lt n (digit b) (twice n g (remainder n g w)) (digit-below b) (twice-closed n g (D .lo) (D .hi) (remainder n g w) (remainder-lt w))
 
   -- a word is a multiple of g, and its remainder
-  divides : (w : List Bool) → (q : List Bool) × (number w ≡ bitXor (multiple q g) (remainder n g w))
+  divides : (w : List Bool) → (q : List Bool) × (number w ≡ bitXor (carryless q g) (remainder n g w))
   divides [] = ([], refl)
   divides (b ∷ w) =
       let r = remainder n g w in
@@ -99,9 +99,9 @@ module _ {n g : ℕ} (D : Degree n g) where
       let (q, e) = divides w in
       let c = eqb top 1 in (
         c ∷ q,
-        sym (xor-digit b (number w)) ∙ ap (λ z. bitXor (digit b) (z * 2)) e ∙ ap (bitXor (digit b)) (xor-double (multiple q g) r)
-            ∙ shuffle (digit b) (multiple q g * 2) (r * 2) (top * g)
-            ∙ ap (λ z. bitXor (bitXor (z * g) (multiple q g * 2)) (bitXor (digit b) (twice n g r))) (sym (digit-odd (r * 2 / 2 ^ n))),
+        sym (xor-digit b (number w)) ∙ ap (λ z. bitXor (digit b) (z * 2)) e ∙ ap (bitXor (digit b)) (xor-double (carryless q g) r)
+            ∙ shuffle (digit b) (carryless q g * 2) (r * 2) (top * g)
+            ∙ ap (λ z. bitXor (bitXor (z * g) (carryless q g * 2)) (bitXor (digit b) (twice n g r))) (sym (digit-odd (r * 2 / 2 ^ n))),
       )
     where
       shuffle : (d m s t : ℕ) → bitXor d (bitXor m s) ≡ bitXor (bitXor t m) (bitXor d (bitXor s t))

@@ -2,11 +2,11 @@
 use Prim.Native.Nat.{ℕ, zero, suc, _+_, _^_}
 use lib.Bits.{bitXor}
 use Rattle.galois.specs.Field.{Field}
-use Rattle.galois.specs.Polynomials.{bits, multiple, twice, remainder}
+use Rattle.galois.specs.Polynomials.{bits, carryless, twice, remainder}
 
 -- the product of two polynomials below degree n: multiplied, and the remainder taken on division by p
 abbrev pub product : ℕ → ℕ → ℕ → ℕ → ℕ
-product n p a b = remainder n p (bits (n + n) (multiple (bits n a) b))
+product n p a b = remainder n p (bits (n + n) (carryless (bits n a) b))
 
 -- the k-th power of x modulo p
 abbrev pub powerOf : ℕ → ℕ → ℕ → ℕ

@@ -21,10 +21,14 @@ abbrev pub bits : ℕ → ℕ → List Bool
 bits zero a = []
 bits (suc n) a = eqb (a % 2) 1 ∷ bits n (a / 2)
 
--- the product of the polynomials q and g, as a number
-abbrev pub multiple : List Bool → ℕ → ℕ
-multiple [] g = 0
-multiple (c ∷ q) g = bitXor (digit c * g) (multiple q g * 2)
+-- bit b of a number, bit 0 the lowest
+abbrev pub bit : ℕ → ℕ → Bool
+bit b a = eqb (a / 2 ^ b % 2) 1
+
+-- the product of the polynomials q and g, as a number: a product without carries
+abbrev pub carryless : List Bool → ℕ → ℕ
+carryless [] g = 0
+carryless (c ∷ q) g = bitXor (digit c * g) (carryless q g * 2)
 
 -- x times a modulo p: shifted up by one and, where that has degree n, p taken away
 abbrev pub twice : ℕ → ℕ → ℕ → ℕ
@@ -39,5 +43,5 @@ remainder n g (b ∷ w) = bitXor (digit b) (twice n g (remainder n g w))
 -- what a remainder r of the word w is: of lower degree than g, and the word less r is a multiple of g
 pub record Divided (n g : ℕ) (w : List Bool) (r : ℕ) : Type 0 where
   pub quotient : List Bool
-  pub whole : number w ≡ bitXor (multiple quotient g) r
+  pub whole : number w ≡ bitXor (carryless quotient g) r
   pub lower : r < 2 ^ n

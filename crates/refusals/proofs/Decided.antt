@@ -1,43 +1,27 @@
 -- What follows from how a call was decided. Assumes nothing.
-use mathlib.Core.Path.{_≡_, refl, ap}
+use mathlib.Core.Path.{_≡_, refl}
 use mathlib.Core.Bool.{true}
-use mathlib.Core.List.{List, [], _∷_}
+use mathlib.Core.List.{[], _∷_}
 use mathlib.Core.Logic.{_⊎_, inl, inr}
-use Prim.Native.Nat.{ℕ}
-use native.Mathlib.Omega.{arith}
-use lib.ListN.{getD}
 use Rattle.std.specs.declared.result.Result.{Result}
 use Rattle.std.specs.declared.result.Result.the-variants.{Ok, Err}
 use Rattle.std.specs.Results.{isOk}
+use Rattle.std.proofs.shelf.Tests.{false≢true}
 use Rattle.refusals.specs.declared.refusal.Refusal.{Refusal}
-use Rattle.refusals.specs.declared.refusal.Refusal.the-variants.{UnknownCode, WrongLength, Unsound, Unreadable, NoMessage, CountFull, TallyFull, NoLine, ShortOutput}
-use Rattle.refusals.specs.Refusals.{Causes, Decides, None, Fits, Refused, outcome, nothing, returned}
+use Rattle.refusals.specs.Refusals.{Causes, Decides, NoCause, Fits}
 
--- no refusal returns 0
-pub refusal-nonzero : (x : Refusal) → returned x ≡ 0 ∷ [] → ⊥
-refusal-nonzero x e = first x (ap (λ l. getD l 0 0) e)
-  where
-    first : (x : Refusal) → getD (returned x) 0 0 ≡ 0 → ⊥
-    first UnknownCode e = omega arith
-    first WrongLength e = omega arith
-    first (Unsound place) e = omega arith
-    first Unreadable e = omega arith
-    first NoMessage e = omega arith
-    first CountFull e = omega arith
-    first TallyFull e = omega arith
-    first NoLine e = omega arith
-    first ShortOutput e = omega arith
-
-none-fits : (cs : Causes) (x : Refusal) → None cs → Fits cs x → ⊥
+none-fits : (cs : Causes) (x : Refusal) → NoCause cs → Fits cs x → ⊥
 none-fits [] x n f = f
 none-fits (c ∷ cs) x n (inl h) = n .0 (h .1)
 none-fits (c ∷ cs) x n (inr h) = none-fits cs x (n .1) h
 
-zero-accepted : (r : Result (Unit {0}) Refusal) → outcome nothing r ≡ 0 ∷ [] → isOk r ≡ true
-zero-accepted (Ok x) e = refl
-zero-accepted (Err x) e = absurd (refusal-nonzero x e)
+module _ {S X : Type 0} (cs : Causes) (Done : X → S → Type 0) (old new : S) where
+  -- where no cause holds, the call is accepted
+  pub decided-accepted : (r : Result X Refusal) → NoCause cs → Decides cs Done old new r → isOk r ≡ true
+  decided-accepted (Ok x) n d = refl
+  decided-accepted (Err x) n d = absurd (none-fits cs (d .0 .refusal) n (d .0 .fits))
 
--- where no cause holds, the call is accepted
-pub decided-accepted : (cs : Causes) (r : Result (Unit {0}) Refusal) → None cs → Decides cs (0 ∷ []) (outcome nothing r) → isOk r ≡ true
-decided-accepted cs r n (inl h) = absurd (none-fits cs (h .refusal) n (h .fits))
-decided-accepted cs r n (inr h) = zero-accepted r (h .1)
+  -- what an accepted call did
+  pub decided-done : (r : Result X Refusal) → isOk r ≡ true → Decides cs Done old new r → (x : X) × Done x new
+  decided-done (Ok x) ok d = (x, d .1)
+  decided-done (Err x) ok d = absurd (false≢true ok)

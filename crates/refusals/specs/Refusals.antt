@@ -56,17 +56,19 @@ NoneBefore [] x = Unit {0}
 NoneBefore (c ∷ cs) x = (row (c .0) < row x → c .1 → ⊥) × NoneBefore cs x
 
 -- no cause holds
-abbrev pub None : Causes → Type 0
-None [] = Unit {0}
-None (c ∷ cs) = (c .1 → ⊥) × None cs
+abbrev pub NoCause : Causes → Type 0
+NoCause [] = Unit {0}
+NoCause (c ∷ cs) = (c .1 → ⊥) × NoCause cs
 
--- a refused call returns what the first row of the table returns whose cause holds
+-- what is returned is what the first row of the table returns whose cause holds
 pub record Refused (cs : Causes) (out : List ℕ) : Type 0 where
   pub refusal : Refusal
   pub fits : Fits cs refusal
   pub first : NoneBefore cs refusal
   pub is : out ≡ returned refusal
 
--- what a call returns: the first refusal that fits or, where none does, what an accepted call returns
-abbrev pub Decides : Causes → List ℕ → List ℕ → Type 0
-Decides cs accepted out = Refused cs out ⊎ (None cs × (out ≡ accepted))
+-- A call that may turn `old` into `new`: refused by the first row of the table whose cause holds, with nothing changed; or,
+-- where no cause holds, accepted, and then Done says what it answered and made.
+abbrev pub Decides : {S X : Type 0} → Causes → (X → S → Type 0) → S → S → Result X Refusal → Type 0
+Decides cs Done old new (Err refusal) = Refused cs (returned refusal) × (new ≡ old)
+Decides cs Done old new (Ok x) = NoCause cs × Done x new

@@ -2,6 +2,7 @@
 mod numbers;
 mod refusal;
 
+pub use numbers::outcome_number;
 pub use refusal::Refusal;
 pub use refusal::RefusalDebug;
 pub use refusal::RefusalEq;

@@ -1,6 +1,6 @@
 ghost use mathlib.Core.Path.{_≡_};
 ghost use lib.ListN.{getD};
-ghost use Rattle.refusals.specs.Refusals.{returned};
+ghost use Rattle.refusals.specs.Refusals.{outcome, nothing, returned};
 use super::refusal::Refusal;
 
 impl Refusal {
@@ -19,5 +19,15 @@ impl Refusal {
             Refusal::NoLine => 8,
             Refusal::ShortOutput => 9,
         }
+    }
+}
+
+// The number that a call returned whose answer is nothing else: 0 where it was accepted.
+pub fn outcome_number(answer: &Result<(), Refusal>) -> u8
+    ensures { λ r. ⌜ r ≡ getD (outcome nothing (now (answer .entry))) 0 0 ⌝ }
+{
+    match answer {
+        Ok(()) => 0,
+        Err(refusal) => refusal.number(),
     }
 }

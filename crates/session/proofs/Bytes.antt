@@ -10,10 +10,9 @@ use lib.Pow.{pow-mono}
 use Rattle.std.proofs.shelf.Counted.{getD-map-counting}
 use Rattle.std.proofs.shelf.Lists.{drop-more, take-all, getD-take, getD-drop}
 use Rattle.std.proofs.shelf.Tests.{cases-lt}
-use Rattle.galois.specs.Polynomials.{digit, number}
+use Rattle.galois.specs.Polynomials.{digit, number, bit}
 use Rattle.galois.proofs.Words.{number-lt, bit-number}
 use Rattle.bch.specs.Codes.{places}
-use Rattle.bch.specs.Messages.{bit}
 use Rattle.session.specs.Packing.{packedByte, packing}
 
 pub rest-lt : (w : List Bool) (k n : ℕ) → length w ≤ k + n → number (drop k w) < 2 ^ n

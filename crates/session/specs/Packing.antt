@@ -6,10 +6,14 @@ use lib.ListN.{take, drop}
 use Rattle.std.specs.Iters.{counting}
 use Rattle.galois.specs.Polynomials.{number}
 
+-- the bytes of a packed word
+abbrev pub packedBytes : ℕ
+packedBytes = 32
+
 -- byte j of a packed word: the number whose bit k is place 8 * j + k; bits past the last place are zero
 abbrev pub packedByte : List Bool → ℕ → ℕ
 packedByte w j = number (take 8 (drop (8 * j) w))
 
--- the 32 bytes of a packed word, from byte 0 on
+-- a packed word, from byte 0 on
 unfoldable pub packing : List Bool → List ℕ
-packing w = map (packedByte w) (counting 0 32)
+packing w = map (packedByte w) (counting 0 packedBytes)

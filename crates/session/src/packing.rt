@@ -3,9 +3,8 @@ ghost use mathlib.Core.Path.{_≡_};
 ghost use mathlib.Core.Bool.{false};
 ghost use Prim.Native.Nat.{ℕ, _/_, _%_, _<_, _≤_};
 ghost use lib.ListN.{length, getD};
-ghost use Rattle.galois.specs.Polynomials.{number};
+ghost use Rattle.galois.specs.Polynomials.{number, bit};
 ghost use Rattle.bch.specs.Codes.{places};
-ghost use Rattle.bch.specs.Messages.{bit};
 ghost use Rattle.session.specs.Packing.{packing};
 use bch::PLACES;
 

@@ -7,20 +7,17 @@ use Prim.Native.Nat.{ℕ, zero, suc, _+_, _<_}
 use native.Mathlib.Nat.{add-zero, add-suc, suc-add, zero-add}
 use native.Mathlib.Omega.{arith}
 use lib.ListN.{length, getD}
-use Rattle.std.specs.declared.result.Result.{Result}
 use Rattle.std.specs.declared.result.Result.the-variants.{Ok, Err}
 use Rattle.std.proofs.shelf.Lists.{ext-getD, getD-map, length-map}
-use Rattle.std.proofs.shelf.Tests.{false≢true}
 use Rattle.refusals.specs.declared.refusal.Refusal.{Refusal}
 use Rattle.refusals.specs.declared.refusal.Refusal.the-variants.{NoMessage}
-use Rattle.refusals.specs.Refusals.{Decides, Fits, Refused, returned}
-use Rattle.refusals.proofs.Decided.{refusal-nonzero}
+use Rattle.refusals.specs.Refusals.{Fits, Refused, returned}
 use Rattle.bch.specs.declared.code.Code.the-variants.{Two}
-use Rattle.bch.specs.Messages.{messageWords, Message, encoding}
+use Rattle.bch.specs.Messages.{messageWords, encoding}
 use Rattle.codes.specs.declared.word.Word.{Word}
 use Rattle.codes.specs.Calls.{encodeCauses, Encoded}
 use Rattle.codes.proofs.Inverse.{code-injective}
-use Rattle.wire.specs.Bytes.{recordWord, wordsFrom, recordWords, sample, Sends, sendCauses}
+use Rattle.wire.specs.Bytes.{recordWord, wordsFrom, recordWords, sample, Sends}
 
 pub all-samples : (w : List Bool) (s : List ℕ) → length s ≡ length w → ((i : ℕ) → i < length w → getD s i 0 ≡ sample (getD w i false)) → s ≡ map sample w
 all-samples w s l at =
@@ -43,22 +40,16 @@ all-words bytes m l at =
     (λ i h. let hi : i < messageWords = omega arith in at i hi ∙ sym (getD-words messageWords 0 i bytes hi ∙ ap (recordWord bytes) (zero-add i)))
 
 -- encoding refuses a record under a known code only where its words are no message
-pub send-refused : (bytes samples : List ℕ) (x : Refusal) → Decides (encodeCauses 2 (recordWords bytes)) (0 ∷ []) (returned x) → Sends bytes samples samples (Err x)
-send-refused bytes samples x (inr h) = absurd (refusal-nonzero x (h .1))
-send-refused bytes samples x (inl h) = go (h .fits)
+pub send-refused : (bytes samples : List ℕ) (x : Refusal) → Refused (encodeCauses 2 (recordWords bytes)) (returned x) → Sends bytes samples samples (Err x)
+send-refused bytes samples x h = go (h .fits)
   where
     go : Fits (encodeCauses 2 (recordWords bytes)) (h .refusal) → Sends bytes samples samples (Err x)
     go (inl f) = absurd (f .1 Two refl)
-    go (inr (inl f)) = record {
-      decided = inl (record { refusal = NoMessage; fits = inl (refl, f .1); first = ((λ l. absurd (omega arith)), tt); is = h .is ∙ ap returned (f .0) });
-      refused = λ _. refl;
-      accepted = λ e. absurd (false≢true e);
-    }
+    go (inr (inl f)) = (record { refusal = NoMessage; fits = inl (refl, f .1); first = ((λ l. absurd (omega arith)), tt); is = h .is ∙ ap returned (f .0) }, refl)
     go (inr (inr f)) = absurd f
 
 pub send-accepted : (bytes old new : List ℕ) (word : Word) → Encoded (recordWords bytes) 2 word → new ≡ map sample (word .bits) → Sends bytes old new (Ok tt)
-send-accepted bytes old new word encoded is = record {
-  decided = inr (((λ not. not (encoded .carries .message)), tt), refl);
-  refused = λ e. absurd (false≢true e);
-  accepted = λ _. is ∙ ap (map sample) (encoded .parity ∙ ap (λ k. encoding k (recordWords bytes)) (code-injective (word .code) Two (encoded .code)));
-}
+send-accepted bytes old new word encoded is = (
+  ((λ not. not (encoded .carries .message)), tt),
+  is ∙ ap (map sample) (encoded .built ∙ ap (λ k. encoding k (recordWords bytes)) (code-injective (word .code) Two (encoded .code))),
+)

@@ -5,10 +5,9 @@ use mathlib.Core.List.{List, [], _∷_, map}
 use Prim.Native.Nat.{ℕ, zero, suc, _+_, _-_, _*_, _^_}
 use lib.ListN.{getD}
 use Rattle.std.specs.declared.result.Result.{Result}
-use Rattle.std.specs.Results.{isOk, isErr}
 use Rattle.refusals.specs.declared.refusal.Refusal.{Refusal}
 use Rattle.refusals.specs.declared.refusal.Refusal.the-variants.{NoMessage}
-use Rattle.refusals.specs.Refusals.{Causes, Decides, outcome, nothing}
+use Rattle.refusals.specs.Refusals.{Causes, Decides}
 use Rattle.bch.specs.declared.code.Code.the-variants.{Two}
 use Rattle.bch.specs.Messages.{messageWords, Message, encoding}
 
@@ -34,9 +33,7 @@ sample false = 256 - 127
 abbrev pub sendCauses : List ℕ → Causes
 sendCauses bytes = (NoMessage, (Message (recordWords bytes) → ⊥)) ∷ []
 
--- sending a record: its bytes, the samples before and after, and the answer
-pub record Sends (bytes : List ℕ) (old new : List ℕ) (answer : Result (Unit {0}) Refusal) : Type 0 where
-  pub decided : Decides (sendCauses bytes) (0 ∷ []) (outcome nothing answer)
-  pub refused : isErr answer ≡ true → new ≡ old
-  -- the encoding under code 2 of the record's words, place by place
-  pub accepted : isOk answer ≡ true → new ≡ map sample (encoding Two (recordWords bytes))
+-- sending a record: its bytes, the samples before and after, and the answer; the samples become those of the encoding under
+-- code 2 of the record's words, place by place
+abbrev pub Sends : List ℕ → List ℕ → List ℕ → Result (Unit {0}) Refusal → Type 0
+Sends bytes old new answer = Decides (sendCauses bytes) (λ _ samples. samples ≡ map sample (encoding Two (recordWords bytes))) old new answer

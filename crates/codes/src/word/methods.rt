@@ -1,8 +1,6 @@
 ghost use mathlib.Core.Path.{_≡_};
-ghost use mathlib.Core.Bool.{false};
-ghost use lib.ListN.{replicate};
-ghost use Rattle.bch.specs.Codes.{places, Codeword};
-ghost use Rattle.bch.specs.declared.code.Code.the-variants.{Two};
+ghost use Rattle.bch.specs.Codes.{Codeword};
+ghost use Rattle.codes.specs.Calls.{New};
 use super::Word;
 use bch::Code;
 use bch::PLACES;
@@ -10,8 +8,7 @@ use bch::PLACES;
 impl Word {
     // All zero, under code 2.
     pub fn new() -> Word
-        ensures code { λ r. ⌜ r .code ≡ Two ⌝ }
-        ensures bits { λ r. ⌜ r .bits ≡ replicate places false ⌝ }
+        ensures { λ r. ⌜ New r ⌝ }
     {
         Word {
             code: Code::Two,

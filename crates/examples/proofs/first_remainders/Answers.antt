@@ -4,4 +4,4 @@ use Rattle.examples.proofs.first_remainders.Needs as need
 
 pub returns : need.returns
 unfolding onesAt
-returns c = record { two = refl; three = refl }
+returns c = record { values = refl; two = refl; three = refl }

@@ -7,4 +7,4 @@ use Rattle.examples.proofs.light_codeword.Needs as need
 
 pub returns : need.returns
 unfolding bytes onesAt
-returns c = computed-codeword Two _ refl refl
+returns c = record { places = refl; codeword = computed-codeword Two _ refl refl }

@@ -1,11 +1,8 @@
 ghost use mathlib.Core.Path.{_≡_};
-ghost use mathlib.Core.Bool.{false};
 ghost use mathlib.Core.List.{_++_};
-ghost use lib.ListN.{replicate};
 ghost use Rattle.std.specs.Of.Vec.{vec-items};
 ghost use Rattle.std.specs.Vec.{made};
-ghost use Rattle.bch.specs.Codes.{places};
-ghost use Rattle.bch.specs.declared.code.Code.the-variants.{Two};
+ghost use Rattle.codes.specs.Calls.{New};
 ghost use Rattle.session.specs.Texts.{summaryText, printed};
 ghost use Rattle.session.specs.Steps.{Counted};
 use super::Session;
@@ -16,8 +13,7 @@ use std::alloc::Global;
 impl Session {
     // A new word, and no calls yet.
     pub fn new() -> Session
-        ensures code { λ r. ⌜ r .word .code ≡ Two ⌝ }
-        ensures bits { λ r. ⌜ r .word .bits ≡ replicate places false ⌝ }
+        ensures word { λ r. ⌜ New (r .word) ⌝ }
         ensures calls { λ r. ⌜ r .calls ≡ 0 ⌝ }
         ensures accepted { λ r. ⌜ r .accepted ≡ 0 ⌝ }
     {

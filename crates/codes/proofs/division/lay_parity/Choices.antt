@@ -3,7 +3,7 @@ use mathlib.Core.Bool.{false}
 use Prim.Native.Nat.{ℕ, _<_, _≤_}
 use lib.ListN.{length, getD}
 use Rattle.bch.specs.Codes.{places}
-use Rattle.bch.specs.Messages.{bit}
+use Rattle.galois.specs.Polynomials.{bit}
 use Rattle.codes.proofs.division.lay_parity.Given as given
 
 -- the places below i hold the remainder's bits, the others what they held

@@ -2,7 +2,7 @@ use mathlib.Core.Path.{_≡_, sym, ap, subst, _∙_}
 use mathlib.Core.Bool.{false}
 use lib.ListN.{replicate}
 use Rattle.std.proofs.shelf.Results.{err-from-errBy}
-use Rattle.bch.specs.Codes.{Codeword}
+use Rattle.bch.specs.Codes.{places, Codeword}
 use Rattle.bch.specs.Messages.{Message, encoding}
 use Rattle.bch.proofs.Encoding.{encoding-codeword}
 use Rattle.codes.specs.Steps.{Laid}
@@ -30,7 +30,7 @@ message c = c .is-message .ensures .yes (c .if-not-is-message .left)
 filled : (c : After-lay-parity) → c .lay-parity .last .places ≡ encoding (c .in-Continue-code .code) (c .args .words .now)
 filled c =
     let k = c .in-Continue-code .code in
-    let laid = subst (λ n. Laid (c .args .words .now) n (replicate 255 false) (c .lay-message .last .bits)) (c .parity .ensures) (c .lay-message .ensures) in
+    let laid = subst (λ n. Laid (c .args .words .now) n (replicate places false) (c .lay-message .last .bits)) (c .parity .ensures) (c .lay-message .ensures) in
     built k (c .args .words .now) (c .lay-message .last .bits) (c .lay-parity .last .places) (c .divide-rest .result)
     (laid-payload k (c .args .words .now) (c .lay-message .last .bits) (message c) (c .lay-message .array-long) laid)
     (c .divide-rest .ensures .value) (c .lay-parity .ensures)
@@ -44,6 +44,6 @@ pub returns : need.returns
 returns c =
     let p = need.at·returns c .After-lay-parity in
     record {
-      call = accept _ _ _ _ (c .in-Continue-code .code) (c .in-Continue-code .ensures tt) (message p) (c .fill .ensures .code) (c .fill .ensures .bits ∙ filled p);
+      call = accept _ _ (c .args .word .now) (c .fill .last .self) (c .in-Continue-code .code) (c .in-Continue-code .ensures tt) (message p) (c .fill .ensures .code) (c .fill .ensures .bits ∙ filled p);
       out-after-in = out-after-in;
     }

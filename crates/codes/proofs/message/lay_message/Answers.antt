@@ -6,7 +6,8 @@ use native.Mathlib.Omega.{arith}
 use borrow.Author.Count.{below-more}
 use lib.ListN.{length, getD, length-set}
 use lib.Seq.{getD-set-same, getD-set-other}
-use Rattle.bch.specs.Messages.{wordBits, bit}
+use Rattle.galois.specs.Polynomials.{bit}
+use Rattle.bch.specs.Messages.{wordBits}
 use Rattle.codes.proofs.message.lay_message.Needs as need
 
 pub loop-i-holds : need.loop-i-holds

@@ -3,7 +3,8 @@ use mathlib.Core.Bool.{false}
 use Prim.Native.Nat.{ℕ, _+_, _/_, _%_, _<_, _≤_}
 use lib.ListN.{length, getD}
 use Rattle.bch.specs.Codes.{places}
-use Rattle.bch.specs.Messages.{wordBits, bit}
+use Rattle.galois.specs.Polynomials.{bit}
+use Rattle.bch.specs.Messages.{wordBits}
 use Rattle.codes.proofs.message.lay_message.Given as given
 
 -- the first i bits of the message stand where they belong, and no other place has changed

@@ -1,8 +1,8 @@
 use mathlib.Core.Path.{_≡_, sym, ap, subst, subst₂, _∙_}
-use Prim.Native.Nat.{_+_}
+use Prim.Native.Nat.{_+_, _*_}
 use Rattle.bch.specs.Codes.{parity}
-use Rattle.bch.specs.Messages.{Message}
-use Rattle.codes.specs.Steps.{Read, Empty}
+use Rattle.bch.specs.Messages.{Message, Empty, wordBits, messageWords}
+use Rattle.codes.specs.Steps.{Read}
 use Rattle.codes.proofs.Inverse.{in-after-out}
 use Rattle.codes.proofs.Reading.{carried-words, read-carries, refuse-take, accept-take}
 use Rattle.codes.proofs.taking.take_message.Needs as need
@@ -18,7 +18,7 @@ pub returns-then-not-empty-from : need.returns-then-not-empty-from
 returns-then-not-empty-from c =
     let p = need.at·returns-then-not-empty-from c .After-words-at-words in
     record {
-      call = refuse-take _ _ (λ m h. c .empty-from .ensures .no (c .if-not-empty-from .taken) (subst₂ (λ w n. Empty w (n + 224)) (sym (c .bits-2 .ensures)) (sym (from p)) (h .spare)));
+      call = refuse-take (c .args .word .now) (c .args .message .now) (λ m h. c .empty-from .ensures .no (c .if-not-empty-from .taken) (subst₂ (λ w n. Empty (n + wordBits * messageWords) w) (sym (c .bits-2 .ensures)) (sym (from p)) (h .spare)));
       in-after-out = in-after-out;
     }
 
@@ -27,7 +27,7 @@ returns-then-not-is-message c =
     let p = need.at·returns-then-not-is-message c .After-words-at-words in
     let word = c .args .word .now in
     record {
-      call = refuse-take _ _ (λ m h. c .is-message .ensures .no (c .if-not-is-message .taken) (subst Message (carried-words (word .code) (word .bits) m (c .words-at-words .result) (word .long) (read p) h) (h .message)));
+      call = refuse-take (c .args .word .now) (c .args .message .now) (λ m h. c .is-message .ensures .no (c .if-not-is-message .taken) (subst Message (carried-words (word .code) (word .bits) m (c .words-at-words .result) (word .long) (read p) h) (h .message)));
       in-after-out = in-after-out;
     }
 
@@ -35,8 +35,8 @@ pub returns : need.returns
 returns c =
     let p = need.at·returns c .After-words-at-words in
     let word = c .args .word .now in
-    let empty = subst₂ (λ w n. Empty w (n + 224)) (c .bits-2 .ensures) (from p) (c .empty-from .ensures .yes (c .if-not-empty-from .left)) in
+    let empty = subst₂ (λ w n. Empty (n + wordBits * messageWords) w) (c .bits-2 .ensures) (from p) (c .empty-from .ensures .yes (c .if-not-empty-from .left)) in
     record {
-      call = accept-take _ _ _ (read-carries (word .code) (word .bits) (c .words-at-words .result) (word .long) (read p) (c .is-message .ensures .yes (c .if-not-is-message .left)) empty);
+      call = accept-take word (c .args .message .now) (c .words-at-words .result) (read-carries (word .code) (word .bits) (c .words-at-words .result) (word .long) (read p) (c .is-message .ensures .yes (c .if-not-is-message .left)) empty);
       in-after-out = in-after-out;
     }

@@ -8,8 +8,7 @@ use lib.ListN.{length, getD, take, drop, length-set, length-take}
 use lib.Seq.{getD-set-same, getD-set-other}
 use Rattle.std.proofs.shelf.Counted.{fill-by-all}
 use Rattle.bch.specs.Codes.{places}
-use Rattle.bch.specs.Messages.{bit}
-use Rattle.galois.specs.Polynomials.{number}
+use Rattle.galois.specs.Polynomials.{bit, number}
 use Rattle.session.specs.Packing.{packedByte, packing}
 use Rattle.session.proofs.Bytes.{eight-from, packed-places}
 use Rattle.session.proofs.packing.packed.Needs as need
