@@ -1,9 +1,8 @@
 -- The encoding of a message is the one codeword that carries it. Assumes nothing.
-use mathlib.Core.Path.{_≡_, refl, sym, ap, _∙_}
+use mathlib.Core.Path.{_≡_, ap, _∙_}
 use mathlib.Core.Bool.{Bool}
 use mathlib.Core.List.{List}
 use Prim.Native.Nat.{ℕ}
-use lib.ListN.{length, drop}
 use Rattle.std.proofs.shelf.Lists.{drop-at}
 use Rattle.galois.specs.Polynomials.{bits}
 use Rattle.galois.specs.Words.{systematic}

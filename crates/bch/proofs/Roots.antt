@@ -1,15 +1,13 @@
 -- What is computed of the two generators: they vanish at α^1 to α^(2t), and the syndromes of the parity places determine them. Assumes nothing.
 use mathlib.Core.Path.{_≡_, refl, sym, ap, ap₂, _∙_}
-use mathlib.Core.Bool.{Bool, true, false, _&&_}
+use mathlib.Core.Bool.{Bool, true, _&&_}
 use mathlib.Core.List.{List, [], _∷_}
-use Prim.Native.Nat.{ℕ, zero, suc, pred, _+_, _-_, _*_, _/_, _%_, _^_, _<_, _≤_}
+use Prim.Native.Nat.{ℕ, zero, suc, _*_, _/_, _%_, _^_, _<_, _≤_}
 use native.Mathlib.Nat.{zero-mul}
 use native.Mathlib.Omega.{arith}
-use lib.Bits.{bitXor, xor-self, xor-zero-r}
-use lib.Dec.{eqb, ltb, leb}
+use lib.Bits.{bitXor}
+use lib.Dec.{eqb, leb}
 use Rattle.std.proofs.shelf.Tests.{and-parts, eqb-true, ltb-true, leb-true}
-use Rattle.galois.specs.Polynomials.{bits}
-use Rattle.galois.specs.Words.{syndrome}
 use Rattle.galois.proofs.Additive.{Additive, basis, bit-times, bit-lt, xor-odd, xor-half, xor-swap}
 use Rattle.galois.proofs.Primitive.{every, every-at}
 use Rattle.galois.proofs.Sums.{value, sum-xor}

@@ -1,23 +1,21 @@
 -- Each way out of encoding and of taking a message out, as its call says it. Assumes nothing.
 use mathlib.Core.Path.{_≡_, refl, sym, ap, subst, _∙_}
-use mathlib.Core.Bool.{Bool, true, false}
-use mathlib.Core.List.{List, [], _∷_, _++_}
-use mathlib.Core.Logic.{_⊎_, inl, inr}
+use mathlib.Core.Bool.{Bool, false}
+use mathlib.Core.List.{List, _++_}
+use mathlib.Core.Logic.{inl, inr}
 use Prim.Native.Nat.{ℕ}
 use native.Mathlib.Omega.{arith}
-use lib.ListN.{length, getD, drop, replicate}
-use Rattle.std.specs.declared.result.Result.{Result}
+use lib.ListN.{length, drop, replicate}
 use Rattle.std.specs.declared.result.Result.the-variants.{Ok, Err}
 use Rattle.std.proofs.shelf.Lists.{getD-append-left, getD-replicate, length-replicate, drop-at, length-append}
-use Rattle.refusals.specs.declared.refusal.Refusal.{Refusal}
 use Rattle.refusals.specs.declared.refusal.Refusal.the-variants.{UnknownCode, NoMessage}
 use Rattle.galois.specs.Polynomials.{bits, remainder}
 use Rattle.bch.specs.declared.code.Code.{Code}
-use Rattle.bch.specs.Codes.{places, NoCode, codeNumber, parity, generator, Codeword}
+use Rattle.bch.specs.Codes.{places, NoCode, codeNumber, parity, generator}
 use Rattle.bch.specs.Messages.{Message, Carries, payload, encoding}
 use Rattle.bch.proofs.Codewords.{parity-below}
-use Rattle.bch.proofs.Messages.{payload-carries, carriers-equal, carried-once, length-payload}
-use Rattle.bch.proofs.Encoding.{encoding-codeword, encoding-carries, encoding-only}
+use Rattle.bch.proofs.Messages.{payload-carries, carriers-equal, length-payload}
+use Rattle.bch.proofs.Encoding.{encoding-carries, encoding-only}
 use Rattle.codes.specs.declared.word.Word.{Word}
 use Rattle.codes.specs.Steps.{Laid}
 use Rattle.codes.specs.Calls.{Encodes}

@@ -1,9 +1,9 @@
 // Division of a word by the generator polynomial.
 ghost use mathlib.Core.Path.{_≡_};
 ghost use mathlib.Core.List.{_++_};
-ghost use Prim.Native.Nat.{ℕ, _+_, _^_, _<_, _≤_};
+ghost use Prim.Native.Nat.{_^_, _<_};
 ghost use lib.Bits.{bitXor};
-ghost use lib.ListN.{length, drop};
+ghost use lib.ListN.{drop};
 ghost use Rattle.galois.specs.Polynomials.{twice, digit, bits, remainder, Divided};
 ghost use Rattle.bch.specs.Codes.{parity, generator};
 use bch::Code;

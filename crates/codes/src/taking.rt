@@ -1,8 +1,8 @@
 // From a codeword to the message that it carries.
 ghost use mathlib.Core.Path.{_≡_};
 ghost use mathlib.Core.Bool.{true, false};
-ghost use Prim.Native.Nat.{ℕ, _+_, _*_, _<_, _≤_};
-ghost use lib.ListN.{length, getD, take, drop};
+ghost use Prim.Native.Nat.{_+_, _*_, _≤_};
+ghost use lib.ListN.{take, drop};
 ghost use Rattle.galois.specs.Polynomials.{number};
 ghost use Rattle.bch.specs.Codes.{places};
 ghost use Rattle.bch.specs.Messages.{wordBits, messageWords, Empty};

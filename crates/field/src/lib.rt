@@ -1,6 +1,5 @@
 // The field of bytes: polynomials over GF(2) modulo x^8 + x^4 + x^3 + x^2 + 1, with α = 2. Its sum is `^`.
 ghost use mathlib.Core.Path.{_≡_};
-ghost use Prim.Native.Nat.{_<_};
 ghost use Rattle.galois.specs.Field.{Laws};
 ghost use Rattle.field.specs.Bytes.{bytes, Logarithm};
 

@@ -4,7 +4,7 @@ use mathlib.Core.Logic.{_⊎_, inl, inr, ⊎-elim}
 use Prim.Native.Nat.{ℕ, zero, suc, _-_, _*_, _/_, _%_, _^_, _<_, _≤_}
 use native.Mathlib.Nat.{zero-mul, one-mul, add-zero, two-pow-succ}
 use native.Mathlib.Omega.{arith}
-use lib.Bits.{bitXor, xor-assoc, xor-comm, xor-self, xor-zero-r, xor-zero-l, xor-block, xor-shr, xor-mod, xor-shifted}
+use lib.Bits.{bitXor, xor-assoc, xor-comm, xor-self, xor-zero-r, xor-block, xor-shr, xor-mod, xor-shifted}
 use lib.Dec.{lit<}
 use Rattle.std.proofs.shelf.Tests.{cases-lt}
 use Rattle.galois.specs.Polynomials.{twice}

@@ -1,7 +1,7 @@
 -- What the laws of a field give of its powers, and of zero. Assumes nothing.
-use mathlib.Core.Path.{_≡_, refl, sym, ap, ap₂, _∙_}
-use Prim.Native.Nat.{ℕ, zero, suc, _+_, _-_, _*_, _/_, _%_, _<_}
-use native.Mathlib.Nat.{zero-add, suc-add, add-assoc, zero-mul, suc-mul, add-comm}
+use mathlib.Core.Path.{_≡_, sym, ap, _∙_}
+use Prim.Native.Nat.{ℕ, zero, suc, _+_, _*_, _/_, _%_}
+use native.Mathlib.Nat.{zero-add, suc-add, zero-mul, suc-mul}
 use native.Mathlib.Omega.{arith}
 use Rattle.std.proofs.shelf.Bits.{div-add-mod'}
 use Rattle.galois.specs.Field.{Field, Laws, nonzeros, Element}

@@ -1,17 +1,17 @@
 -- A polynomial whose powers of x run through every element but zero gives a field: one computed test. Assumes nothing.
-use mathlib.Core.Path.{_≡_, refl, sym, ap, ap₂, subst, _∙_}
+use mathlib.Core.Path.{_≡_, refl, sym, ap, ap₂, _∙_}
 use mathlib.Core.Bool.{Bool, true, false, _&&_}
 use mathlib.Core.List.{List, [], _∷_}
-use Prim.Native.Nat.{ℕ, zero, suc, _+_, _-_, _*_, _/_, _%_, _^_, _<_, _≤_}
+use Prim.Native.Nat.{ℕ, zero, suc, _+_, _-_, _%_, _^_, _<_, _≤_}
 use native.Mathlib.Nat.{add-zero, zero-add, add-suc, suc-add, le-refl}
 use native.Mathlib.Omega.{arith}
 use lib.Bits.{bitXor, xor-assoc, xor-comm, xor-self, xor-lt}
 use lib.Dec.{eqb, ltb, leb}
 use lib.Pow.{pow-lt}
-use mathlib.Core.Logic.{_⊎_, inl, inr, ⊎-elim}
+use mathlib.Core.Logic.{⊎-elim}
 use Rattle.std.proofs.shelf.Tests.{and-parts, cases-eq, eqb-true, ltb-true, leb-true}
 use lib.ListN.{length, getD}
-use Rattle.galois.specs.Field.{Field, Laws}
+use Rattle.galois.specs.Field.{Laws}
 use Rattle.galois.specs.Polynomials.{twice}
 use Rattle.galois.specs.Binary.{product, powerOf, binary}
 use Rattle.galois.proofs.Product as by

@@ -1,16 +1,16 @@
 -- The product modulo a polynomial, coefficient by coefficient, and its laws for any degree and polynomial. Assumes nothing.
 use mathlib.Core.Path.{_≡_, refl, sym, ap, ap₂, _∙_}
 use Prim.Native.Nat.{ℕ, zero, suc, _+_, _-_, _*_, _/_, _%_, _^_, _<_, _≤_}
-use mathlib.Core.Logic.{_⊎_, inl, inr, ⊎-elim}
+use mathlib.Core.Logic.{_⊎_, inl, inr}
 use native.Mathlib.Nat.{zero-mul, one-mul, mul-one, div-eq-of-lt, two-pow-succ, le-refl}
 use native.Mathlib.Omega.{arith}
-use lib.Bits.{bitXor, xor-assoc, xor-comm, xor-self, xor-zero-r, xor-zero-l, xor-lt, xor-block, xor-shifted}
+use lib.Bits.{bitXor, xor-comm, xor-zero-r, xor-lt, xor-block, xor-shifted}
 use lib.Dec.{lit<}
 use lib.Pow.{pow-mono, pow-pos, pow-lt, high}
 use Rattle.std.proofs.shelf.Tests.{cases-lt}
 use Rattle.galois.specs.Polynomials.{twice}
 use Rattle.galois.specs.Binary.{powerOf}
-use Rattle.galois.proofs.Additive.{Additive, additive-zero, additive-bit, bit-times, times-bit, bit-lt, bit-cases, bit-product-lt, twice-additive, xor-swap, xor-odd, xor-half}
+use Rattle.galois.proofs.Additive.{Additive, additive-zero, additive-bit, times-bit, bit-lt, bit-cases, bit-product-lt, twice-additive, xor-swap, xor-odd}
 
 one-lt : (n : ℕ) → 0 < n → 1 < 2 ^ n
 one-lt n h = pow-lt {i = 0} {j = n} h

@@ -1,15 +1,15 @@
 -- The remainder of a polynomial product is the product coefficient by coefficient. Assumes nothing.
 use mathlib.Core.Path.{_≡_, refl, sym, ap, ap₂, _∙_}
-use mathlib.Core.Bool.{Bool, false}
-use mathlib.Core.List.{List, [], _∷_, append-nil}
-use Prim.Native.Nat.{ℕ, zero, suc, _+_, _*_, _/_, _%_, _^_, _<_, _≤_}
+use mathlib.Core.Bool.{false}
+use mathlib.Core.List.{[], append-nil}
+use Prim.Native.Nat.{ℕ, zero, suc, _+_, _*_, _/_, _%_, _^_, _<_}
 use native.Mathlib.Nat.{add-zero, add-suc, two-pow-succ}
 use native.Mathlib.Omega.{arith}
 use lib.Bits.{bitXor, xor-zero-r}
 use lib.Dec.{eqb}
 use lib.ListN.{length, replicate}
 use lib.Pow.{pow-mono}
-use Rattle.galois.specs.Polynomials.{digit, number, bits, carryless, twice, remainder}
+use Rattle.galois.specs.Polynomials.{digit, bits, carryless, twice, remainder}
 use Rattle.galois.specs.Binary.{product}
 use Rattle.galois.proofs.Additive.{additive-zero, twice-additive, xor-odd, xor-half, xor-swap, bit-lt, bit-product-lt}
 use Rattle.galois.proofs.Product.{productOf, stepped}

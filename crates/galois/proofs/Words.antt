@@ -2,8 +2,8 @@
 use mathlib.Core.Path.{_≡_, refl, sym, ap, ap₂, _∙_}
 use mathlib.Core.Bool.{Bool, true, false}
 use mathlib.Core.List.{List, [], _∷_, _++_}
-use mathlib.Core.Logic.{_⊎_, inl, inr, ⊎-elim}
-use Prim.Native.Nat.{ℕ, zero, suc, _+_, _-_, _*_, _/_, _%_, _^_, _<_, _≤_}
+use mathlib.Core.Logic.{_⊎_, inl, inr}
+use Prim.Native.Nat.{ℕ, zero, suc, _+_, _*_, _/_, _%_, _^_, _<_, _≤_}
 use native.Mathlib.Nat.{two-pow-succ, div-one}
 use native.Mathlib.Numerals.{one-add}
 use native.Mathlib.Omega.{arith}
@@ -11,7 +11,6 @@ use lib.Bits.{bitXor, xor-assoc, xor-comm, xor-self, xor-zero-r, xor-lt, xor-shi
 use lib.Dec.{eqb}
 use lib.ListN.{length, getD, replicate}
 use lib.Pow.{pow-mono, pow-pos, shr-shr}
-use Rattle.std.proofs.shelf.Tests.{eqb-true}
 use Rattle.galois.specs.Polynomials.{twice, digit, number, bits, carryless, remainder, Divided}
 use Rattle.galois.specs.Words.{systematic}
 use Rattle.galois.proofs.Additive.{bit-lt, bit-cases, twice-additive, xor-double, xor-swap}

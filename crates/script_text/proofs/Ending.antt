@@ -4,7 +4,7 @@ use mathlib.Core.List.{List, [], _∷_, _++_}
 use Prim.Native.Nat.{ℕ, _+_, _-_, _<_}
 use native.Mathlib.Omega.{arith}
 use lib.Dec.{eqb}
-use lib.ListN.{length, getD, take, drop}
+use lib.ListN.{length, getD, take}
 use Rattle.std.proofs.shelf.Lists.{take-append-drop, drop-more, drop-all, length-push, take-at, getD-at}
 use Rattle.std.proofs.shelf.Tests.{cond-true, cond-both, eqb-true, eq-eqb}
 use Rattle.script_text.specs.Fields.{withoutReturn}

@@ -1,8 +1,8 @@
 -- What a row makes of the fields that are left. Assumes nothing.
-use mathlib.Core.Path.{_≡_, refl, sym, ap, _∙_}
+use mathlib.Core.Path.{_≡_, refl, ap, _∙_}
 use mathlib.Core.Bool.{true, false}
 use mathlib.Core.List.{List, [], _∷_, _++_, append-nil, append-assoc}
-use Prim.Native.Nat.{ℕ, _+_, _<_}
+use Prim.Native.Nat.{ℕ, _<_}
 use native.Mathlib.Omega.{arith}
 use denote.Ref.{RefT}
 use lib.Dec.{eqb}
@@ -10,7 +10,7 @@ use lib.ListN.{length, getD, length-append}
 use Rattle.std.specs.Options.{mapped}
 use Rattle.std.specs.declared.option.Option.{Option}
 use Rattle.std.specs.declared.option.Option.the-variants.{Some, None}
-use Rattle.script_text.specs.Numerals.{andThen, hexWord, codeNumber}
+use Rattle.script_text.specs.Numerals.{hexWord, codeNumber}
 use Rattle.script_text.specs.Fields.{fields, fieldsLeft, spaced, withoutReturn}
 use Rattle.script_text.specs.Lines.{hexWords, orNot, nothing, notUnderstood, callEncode, encodeRow, row, quiet, meaning}
 

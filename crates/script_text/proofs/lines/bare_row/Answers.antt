@@ -1,4 +1,3 @@
-use mathlib.Core.Path.{refl, sym}
 use Rattle.script_text.specs.Fields.{fieldsLeft}
 use Rattle.script_text.specs.Lines.{bareRow}
 use Rattle.script_text.proofs.Splitting.{some-field}

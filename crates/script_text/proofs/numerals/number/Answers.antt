@@ -2,10 +2,9 @@ use mathlib.Core.Path.{_≡_, refl, sym, ap, subst, _∙_}
 use Prim.Native.Nat.{_+_, _*_, _^_, _<_}
 use native.Mathlib.Nat.{pow-zero}
 use native.Mathlib.Omega.{arith}
-use lib.ListN.{length, getD, drop}
-use Rattle.std.specs.declared.option.Option.the-variants.{Some}
+use lib.ListN.{getD, drop}
 use Rattle.std.proofs.shelf.Lists.{at-drop-all}
-use Rattle.script_text.specs.Numerals.{digit, numeralAfter}
+use Rattle.script_text.specs.Numerals.{numeralAfter}
 use Rattle.script_text.proofs.Reading.{digit-below, room, fits, one-more, no-digit}
 use Rattle.script_text.proofs.numerals.number.Needs as need
 use Rattle.script_text.proofs.numerals.number.Needs.{In-Continue-d}

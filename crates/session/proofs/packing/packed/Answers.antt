@@ -1,13 +1,11 @@
 use mathlib.Core.Logic.{_≢_}
-use mathlib.Core.Path.{_≡_, sym, ap, subst, _∙_}
-use mathlib.Core.Bool.{false}
-use Prim.Native.Nat.{ℕ, _-_, _*_, _/_, _%_, _<_}
+use mathlib.Core.Path.{ap, _∙_}
+use Prim.Native.Nat.{_-_, _*_, _/_, _%_, _<_}
 use native.Mathlib.Omega.{arith}
 use borrow.Author.Count.{below-more}
-use lib.ListN.{length, getD, take, drop, length-set, length-take}
+use lib.ListN.{length, getD, drop, length-set, length-take}
 use lib.Seq.{getD-set-same, getD-set-other}
 use Rattle.std.proofs.shelf.Counted.{fill-by-all}
-use Rattle.bch.specs.Codes.{places}
 use Rattle.galois.specs.Polynomials.{bit, number}
 use Rattle.session.specs.Packing.{packedByte, packing}
 use Rattle.session.proofs.Bytes.{eight-from, packed-places}

@@ -1,5 +1,4 @@
 use mathlib.Core.Path.{_≡_, sym, ap}
-use Prim.Native.Nat.{ℕ}
 use Rattle.bch.specs.Codes.{generator}
 use Rattle.bch.proofs.Codewords.{generates, place-powers}
 use Rattle.bch.proofs.code.Code.generator.Needs as need

@@ -1,4 +1,4 @@
-use mathlib.Core.Path.{_≡_, refl, sym, ap, _∙_}
+use mathlib.Core.Path.{refl, sym, ap, _∙_}
 use Rattle.session.specs.Steps.{EncodeLine}
 use Rattle.session.specs.Texts.{printed, answerText, wordText}
 use Rattle.session.proofs.Answering.{encode-line, adds}
