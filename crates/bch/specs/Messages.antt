@@ -17,9 +17,13 @@ messageWords = 7
 abbrev pub wordBits : ℕ
 wordBits = 32
 
+-- the bits of a kind
+abbrev pub kindBits : ℕ
+kindBits = 2
+
 -- the kind of a word: its top two bits
 abbrev pub kind : ℕ → ℕ
-kind x = x / 2 ^ 30
+kind x = x / 2 ^ (wordBits - kindBits)
 
 -- the kind of a message's words, binary 01
 abbrev pub messageKind : ℕ

@@ -22,13 +22,13 @@ use Rattle.codes.specs.Calls.{Encodes}
 
 pub refuse-code : (words : List ℕ) (number : ℕ) (word : Word) → NoCode number → Encodes words number word word (Err UnknownCode)
 refuse-code words number word none = (
-  record { refusal = UnknownCode; fits = inl (refl, none); first = ((λ l. absurd (omega arith)), ((λ l. absurd (omega arith)), tt)); is = refl },
+  record { fits = inl (refl, none); first = ((λ l. absurd (omega arith)), ((λ l. absurd (omega arith)), tt)); returns = refl },
   refl,
 )
 
 pub refuse-message : (words : List ℕ) (number : ℕ) (word : Word) (k : Code) → codeNumber k ≡ number → (Message words → ⊥) → Encodes words number word word (Err NoMessage)
 refuse-message words number word k is not = (
-  record { refusal = NoMessage; fits = inr (inl (refl, not)); first = ((λ _ none. none k is), ((λ l. absurd (omega arith)), tt)); is = refl },
+  record { fits = inr (inl (refl, not)); first = ((λ _ none. none k is), ((λ l. absurd (omega arith)), tt)); returns = refl },
   refl,
 )
 
@@ -37,13 +37,16 @@ pub accept : (words : List ℕ) (number : ℕ) (old new : Word) (k : Code) → c
 accept words number old new k is message code filled =
     let built : new .bits ≡ encoding (new .code) words = filled ∙ ap (λ q. encoding q words) (sym code) in (
       ((λ none. none k is), ((λ not. not message), tt)),
-      record {
-        code = ap codeNumber code ∙ is;
-        codeword = record { long = new .long; zeros = new .zeros };
-        carries = subst (Carries (new .code) words) (sym built) (encoding-carries (new .code) words message);
-        only = λ w c h. encoding-only (new .code) words w c h ∙ sym built;
-        built = built;
-      },
+      (
+        refl,
+        record {
+          code = ap codeNumber code ∙ is;
+          codeword = record { long = new .long; zeros = new .zeros };
+          carries = subst (Carries (new .code) words) (sym built) (encoding-carries (new .code) words message);
+          only = λ w c h. encoding-only (new .code) words w c h ∙ sym built;
+          built = built;
+        },
+      ),
     )
 
 -- the message laid into an empty word stands above empty parity places

@@ -2,7 +2,7 @@
 use mathlib.Core.Path.{_≡_, refl, sym, subst}
 use native.Mathlib.Omega.{arith}
 use Rattle.refusals.specs.Refusals.{NoCause}
-use Rattle.refusals.proofs.Decided.{decided-accepted, decided-done}
+use Rattle.refusals.proofs.Decided.{acts-accepted, acts-made}
 use Rattle.bch.specs.declared.code.Code.{Code}
 use Rattle.bch.specs.declared.code.Code.the-variants.{Two, Three}
 use Rattle.bch.specs.Codes.{codeNumber, Codeword}
@@ -18,18 +18,17 @@ code-injective Three Three e = refl
 
 pub out-after-in : OutAfterIn
 out-after-in words number old word encoded e ok before after taken t =
-    let carries = decided-done (encodeCauses number words) (λ _ w. Encoded words number w) old word encoded ok e .1 .carries in
-    let took = decided-accepted (takeCauses word) (λ _ m. Taken word m) before after taken ((λ not. not words carries), tt) t in
-    let out = decided-done (takeCauses word) (λ _ m. Taken word m) before after taken took t .1 in
-    (took, sym (out .only words carries))
+    let carries = acts-made (encodeCauses number words) (Encoded words number) old word encoded ok e .carries in
+    let took = acts-accepted (takeCauses word) (Taken word) before after taken ((λ not. not words carries), tt) t in
+    (took, sym (acts-made (takeCauses word) (Taken word) before after taken took t .only words carries))
 
 pub in-after-out : InAfterOut
 in-after-out word before words taken t ok old new encoded e =
     let number = codeNumber (word .code) in
-    let carries = decided-done (takeCauses word) (λ _ m. Taken word m) before words taken ok t .1 .carries in
+    let carries = acts-made (takeCauses word) (Taken word) before words taken ok t .carries in
     let none : NoCause (encodeCauses number words) = ((λ not. not (word .code) refl), ((λ not. not (carries .message)), tt)) in
-    let done = decided-accepted (encodeCauses number words) (λ _ w. Encoded words number w) old new encoded none e in
-    let full = decided-done (encodeCauses number words) (λ _ w. Encoded words number w) old new encoded done e .1 in
+    let done = acts-accepted (encodeCauses number words) (Encoded words number) old new encoded none e in
+    let full = acts-made (encodeCauses number words) (Encoded words number) old new encoded done e in
     let code = code-injective (new .code) (word .code) (full .code) in
     let codeword : Codeword (word .code) (word .bits) = record { long = word .long; zeros = word .zeros } in
     let same = full .only (word .bits) (subst (λ k. Codeword k (word .bits)) (sym code) codeword) (subst (λ k. Carries k words (word .bits)) (sym code) carries) in

@@ -8,7 +8,7 @@ use Rattle.std.specs.declared.result.Result.{Result}
 use Rattle.std.specs.Results.{isOk}
 use Rattle.refusals.specs.declared.refusal.Refusal.{Refusal}
 use Rattle.refusals.specs.declared.refusal.Refusal.the-variants.{UnknownCode, NoMessage}
-use Rattle.refusals.specs.Refusals.{Causes, Decides}
+use Rattle.refusals.specs.Refusals.{Causes, Acts}
 use Rattle.bch.specs.declared.code.Code.the-variants.{Two}
 use Rattle.bch.specs.Codes.{places, NoCode, codeNumber, Codeword}
 use Rattle.bch.specs.Messages.{Message, Carries, encoding}
@@ -34,7 +34,7 @@ pub record Encoded (words : List ℕ) (number : ℕ) (word : Word) : Type 0 wher
 
 -- encoding: the words and the code number, the caller's word before and after, and the answer
 abbrev pub Encodes : List ℕ → ℕ → Word → Word → Result (Unit {0}) Refusal → Type 0
-Encodes words number old new answer = Decides (encodeCauses number words) (λ _ word. Encoded words number word) old new answer
+Encodes words number old new answer = Acts (encodeCauses number words) (Encoded words number) old new answer
 
 -- Taking a message out is refused where the word carries none.
 abbrev pub takeCauses : Word → Causes
@@ -47,7 +47,7 @@ pub record Taken (word : Word) (words : List ℕ) : Type 0 where
 
 -- taking a message out: the word, the caller's memory before and after, and the answer
 abbrev pub Takes : Word → List ℕ → List ℕ → Result (Unit {0}) Refusal → Type 0
-Takes word old new answer = Decides (takeCauses word) (λ _ words. Taken word words) old new answer
+Takes word old new answer = Acts (takeCauses word) (Taken word) old new answer
 
 -- a message that was encoded comes out again
 abbrev pub OutAfterIn : Type 0

@@ -10,13 +10,13 @@ use Rattle.std.specs.declared.option.Option.{Option}
 use Rattle.std.specs.declared.option.Option.the-variants.{Some, None}
 use Rattle.std.proofs.shelf.Lists.{at-drop-more}
 use Rattle.std.proofs.shelf.Ways.{tells}
-use Rattle.script_text.specs.Numerals.{andThen, below, hexDigit, digit, numeralAfter}
+use Rattle.script_text.specs.Numerals.{andThen, below, hexDigit, digitIn, numeralAfter}
 
 then-below : (o : Option ℕ) (bound x : ℕ) → andThen o (below bound) ≡ Some x → x < bound
 then-below None bound x e = absurd (grind arith)
 then-below (Some y) bound x e = grind (arith, tells)
 
-pub digit-below : (base b d : ℕ) → Some d ≡ digit base b → d < base
+pub digit-below : (base b d : ℕ) → Some d ≡ digitIn base b → d < base
 digit-below base b d e = then-below (hexDigit b) base d (sym e)
 
 pub room : (base n d i : ℕ) → n < base ^ i → d < base → n * base + d < base ^ (i + 1)
@@ -27,11 +27,11 @@ room base n d i h k =
 pub fits : (base m i : ℕ) → base ≤ 16 → i < 10 → m < base ^ (i + 1) → m < 2 ^ 64
 fits base m i b h l = omega (arith, pow-le-pow-left b (i + 1), pow-le-pow-right {n = 16} (omega arith) {i = i + 1} {j = 10} (omega arith))
 
-pub one-more : (base n d : ℕ) (bs : List ℕ) (i : ℕ) → i < length bs → Some d ≡ digit base (getD bs i 0) → numeralAfter base n (drop i bs) ≡ numeralAfter base (n * base + d) (drop (i + 1) bs)
+pub one-more : (base n d : ℕ) (bs : List ℕ) (i : ℕ) → i < length bs → Some d ≡ digitIn base (getD bs i 0) → numeralAfter base n (drop i bs) ≡ numeralAfter base (n * base + d) (drop (i + 1) bs)
 one-more base n d bs i h e =
     at-drop-more (numeralAfter base n) bs i 0 h ∙ ap (λ o. andThen o (λ d. numeralAfter base (n * base + d) (drop (i + 1) bs))) (sym e)
 
-pub no-digit : (base n : ℕ) (bs : List ℕ) (i : ℕ) → i < length bs → None ≡ digit base (getD bs i 0) → numeralAfter base n (drop i bs) ≡ None
+pub no-digit : (base n : ℕ) (bs : List ℕ) (i : ℕ) → i < length bs → None ≡ digitIn base (getD bs i 0) → numeralAfter base n (drop i bs) ≡ None
 no-digit base n bs i h e =
     at-drop-more (numeralAfter base n) bs i 0 h ∙ ap (λ o. andThen o (λ d. numeralAfter base (n * base + d) (drop (i + 1) bs))) (sym e)
 

@@ -10,9 +10,9 @@ use lib.ListN.{length, getD, length-append}
 use Rattle.std.specs.Options.{mapped}
 use Rattle.std.specs.declared.option.Option.{Option}
 use Rattle.std.specs.declared.option.Option.the-variants.{Some, None}
-use Rattle.script_text.specs.Numerals.{hexWord, codeNumber}
+use Rattle.script_text.specs.Numerals.{hexWord, codeText}
 use Rattle.script_text.specs.Fields.{fields, fieldsLeft, spaced, withoutReturn}
-use Rattle.script_text.specs.Lines.{hexWords, orNot, nothing, notUnderstood, callEncode, encodeRow, row, quiet, meaning}
+use Rattle.script_text.specs.Lines.{hexWords, orNot, saysNothing, notUnderstood, callEncode, encodeRow, callRow, quiet, meaning}
 
 pub left-is : (rest after : Option (RefT (List ℕ))) (text : RefT (List ℕ)) (field : List ℕ) → rest ≡ Some text → fields (text .now) ≡ field ∷ fieldsLeft after → fieldsLeft rest ≡ field ∷ fieldsLeft after
 unfolding fieldsLeft
@@ -38,11 +38,11 @@ pub no-words-left : (xs : List ℕ) (rest : Option (RefT (List ℕ))) → rest �
 unfolding hexWords fieldsLeft
 no-words-left xs rest e = rw e (ap Some (append-nil xs))
 
-pub encode-is : (code : List ℕ) (words : List (List ℕ)) (n : ℕ) → codeNumber code ≡ Some n → encodeRow (code ∷ words) ≡ orNot (mapped (callEncode n) (hexWords words))
+pub encode-is : (code : List ℕ) (words : List (List ℕ)) (n : ℕ) → codeText code ≡ Some n → encodeRow (code ∷ words) ≡ orNot (mapped (callEncode n) (hexWords words))
 unfolding encodeRow
 encode-is code words n e = rw e
 
-pub encode-no-code : (code : List ℕ) (words : List (List ℕ)) → codeNumber code ≡ None → encodeRow (code ∷ words) ≡ notUnderstood
+pub encode-no-code : (code : List ℕ) (words : List (List ℕ)) → codeText code ≡ None → encodeRow (code ∷ words) ≡ notUnderstood
 unfolding encodeRow
 encode-no-code code words e = rw e
 
@@ -56,10 +56,10 @@ unfolding quiet
 quiet-some [] h = absurd (omega arith)
 quiet-some (b ∷ bs) h = refl
 
-pub says-nothing : (line text : List ℕ) → text ≡ withoutReturn line → quiet text ≡ true → meaning line ≡ nothing
+pub says-nothing : (line text : List ℕ) → text ≡ withoutReturn line → quiet text ≡ true → meaning line ≡ saysNothing
 unfolding meaning
 says-nothing line text e q = rw (← e, q)
 
-pub says-call : (line text name : List ℕ) (rest : List (List ℕ)) → text ≡ withoutReturn line → quiet text ≡ false → fields text ≡ name ∷ rest → meaning line ≡ row name rest
+pub says-call : (line text name : List ℕ) (rest : List (List ℕ)) → text ≡ withoutReturn line → quiet text ≡ false → fields text ≡ name ∷ rest → meaning line ≡ callRow name rest
 unfolding meaning
 says-call line text name rest e q f = rw (← e, q, f)

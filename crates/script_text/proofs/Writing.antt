@@ -9,9 +9,9 @@ use lib.ListN.{length, getD, drop}
 use Rattle.std.specs.declared.option.Option.the-variants.{Some}
 use Rattle.std.proofs.shelf.Lists.{at-drop-more, at-drop-all}
 use Rattle.std.proofs.shelf.Ways.{tells}
-use Rattle.script_text.specs.Numerals.{andThen, digit, upperDigit, numeralAfter, hexWord, hexText, bytesText}
+use Rattle.script_text.specs.Numerals.{andThen, digitIn, upperDigit, numeralAfter, hexWord, hexText, bytesText}
 
-read-upper : (d : ℕ) → d < 16 → digit 16 (upperDigit d) ≡ Some d
+read-upper : (d : ℕ) → d < 16 → digitIn 16 (upperDigit d) ≡ Some d
 read-upper d h = grind (arith, tells)
 
 positive : (n : ℕ) → 0 < 16 ^ n

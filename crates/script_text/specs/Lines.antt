@@ -9,12 +9,12 @@ use Rattle.std.specs.Options.{mapped}
 use Rattle.std.specs.declared.option.Option.{Option}
 use Rattle.std.specs.declared.option.Option.the-variants.{Some, None}
 use Rattle.std.specs.shelf.Text.{sameBytes}
-use Rattle.script_text.specs.Numerals.{andThen, hexWord, codeNumber}
+use Rattle.script_text.specs.Numerals.{andThen, hexWord, codeText}
 use Rattle.script_text.specs.Fields.{fields, withoutReturn}
 
 -- what a line can be
 pub data Meaning : Type 0 where
-  nothing : Meaning
+  saysNothing : Meaning
   notUnderstood : Meaning
   callEncode : ℕ → List ℕ → Meaning
   callTake : Meaning
@@ -32,7 +32,7 @@ orNot (Some m) = m
 -- encode CODE WORD..
 unfoldable pub encodeRow : List (List ℕ) → Meaning
 encodeRow [] = notUnderstood
-encodeRow (code ∷ words) = orNot (andThen (codeNumber code) (λ c. mapped (callEncode c) (hexWords words)))
+encodeRow (code ∷ words) = orNot (andThen (codeText code) (λ c. mapped (callEncode c) (hexWords words)))
 
 -- a call with no fields after its name
 unfoldable pub bareRow : Meaning → List (List ℕ) → Meaning
@@ -49,13 +49,13 @@ rowOf [] name rest = notUnderstood
 rowOf (r ∷ rs) name rest = cond (sameBytes name (codes (r .0))) (r .1 rest) (rowOf rs name rest)
 
 -- a call by its name and the fields after it
-unfoldable pub row : List ℕ → List (List ℕ) → Meaning
-row name rest = rowOf rows name rest
+unfoldable pub callRow : List ℕ → List (List ℕ) → Meaning
+callRow name rest = rowOf rows name rest
 
 -- a line by its fields, the first of which is the call's name
 abbrev pub call : List (List ℕ) → Meaning
 call [] = notUnderstood
-call (name ∷ rest) = row name rest
+call (name ∷ rest) = callRow name rest
 
 -- an empty text, and a comment, which begins with '#' (byte 35), print nothing
 unfoldable pub quiet : List ℕ → Bool
@@ -64,4 +64,4 @@ quiet (b ∷ bs) = eqb b 35
 
 -- what a line of a script says; one carriage return at its end does not count
 unfoldable pub meaning : List ℕ → Meaning
-meaning line = let text = withoutReturn line in cond (quiet text) nothing (call (fields text))
+meaning line = let text = withoutReturn line in cond (quiet text) saysNothing (call (fields text))

@@ -25,13 +25,13 @@ abbrev pub hexDigit : ℕ → Option ℕ
 hexDigit b = cond (within 48 57 b) (Some (b - 48)) (cond (within 65 70 b) (Some (b - 55)) (cond (within 97 102 b) (Some (b - 87)) None))
 
 -- the value of a digit in a base up to 16: a hex digit with a value below the base
-abbrev pub digit : ℕ → ℕ → Option ℕ
-digit base b = andThen (hexDigit b) (below base)
+abbrev pub digitIn : ℕ → ℕ → Option ℕ
+digitIn base b = andThen (hexDigit b) (below base)
 
 -- the number that digits write after those that wrote n, if each byte is a digit
 abbrev pub numeralAfter : ℕ → ℕ → List ℕ → Option ℕ
 numeralAfter base n [] = Some n
-numeralAfter base n (b ∷ bs) = andThen (digit base b) (λ d. numeralAfter base (n * base + d) bs)
+numeralAfter base n (b ∷ bs) = andThen (digitIn base b) (λ d. numeralAfter base (n * base + d) bs)
 
 -- the number that digits write in the base, high digit first
 abbrev pub numeral : ℕ → List ℕ → Option ℕ
@@ -42,8 +42,8 @@ unfoldable pub hexWord : List ℕ → Option ℕ
 hexWord bs = cond (within 1 8 (length bs)) (numeral 16 bs) None
 
 -- CODE: one to ten decimal digits, with a value below 2 ^ 32
-unfoldable pub codeNumber : List ℕ → Option ℕ
-codeNumber bs = cond (within 1 10 (length bs)) (andThen (numeral 10 bs) (below (2 ^ 32))) None
+unfoldable pub codeText : List ℕ → Option ℕ
+codeText bs = cond (within 1 10 (length bs)) (andThen (numeral 10 bs) (below (2 ^ 32))) None
 
 -- the upper-case hex digit of a value below 16
 abbrev pub upperDigit : ℕ → ℕ

@@ -5,7 +5,7 @@ ghost use Rattle.std.specs.Options.{mapped};
 ghost use Rattle.std.specs.Vec.{made};
 ghost use Rattle.std.specs.shelf.Text.{sameBytes};
 ghost use Rattle.script_text.specs.Fields.{fieldsLeft};
-ghost use Rattle.script_text.specs.Lines.{hexWords, encodeRow, bareRow, row, quiet, meaning};
+ghost use Rattle.script_text.specs.Lines.{hexWords, encodeRow, bareRow, callRow, quiet, meaning};
 ghost use Rattle.script_text.specs.Seen.{seen};
 use crate::fields::split_field;
 use crate::fields::without_return;
@@ -78,7 +78,7 @@ fn is(name: &[u8], this: &[u8]) -> bool
 
 // A call by its name, with the fields that are left.
 fn call_row(heap: Global, name: &[u8], rest: Option<&[u8]>) -> Result<Line, AllocError>
-    ensures { λ r. ⌜ made r (λ l. seen l ≡ row (now (name .entry)) (fieldsLeft (rest .entry))) ⌝ }
+    ensures { λ r. ⌜ made r (λ l. seen l ≡ callRow (now (name .entry)) (fieldsLeft (rest .entry))) ⌝ }
 {
     if is(name, b"encode") {
         encode_row(heap, rest)

@@ -4,7 +4,7 @@ ghost use Prim.Native.Nat.{_+_, _%_, _^_, _<_, _≤_};
 ghost use lib.ListN.{length};
 ghost use Rattle.std.specs.Slices.{found};
 ghost use Rattle.std.specs.declared.option.Option.the-variants.{Some};
-ghost use Rattle.script_text.specs.Numerals.{hexDigit, digit, numeral, hexWord, codeNumber, upperDigit, hexText};
+ghost use Rattle.script_text.specs.Numerals.{hexDigit, digitIn, numeral, hexWord, codeText, upperDigit, hexText};
 
 const MAX_HEX_DIGITS: usize = 8;
 
@@ -24,7 +24,7 @@ pub(crate) fn hex_digit(b: u8) -> Option<u8>
 
 // The value of a digit in a base up to 16.
 fn digit_in(base: u8, b: u8) -> Option<u8>
-    ensures { λ r. ⌜ r ≡ digit base b ⌝ }
+    ensures { λ r. ⌜ r ≡ digitIn base b ⌝ }
 {
     match hex_digit(b) {
         Some(d) if d < base => Some(d),
@@ -59,7 +59,7 @@ pub(crate) fn hex_word(field: &[u8]) -> Option<u32>
 
 // A field that is a CODE: one to ten decimal digits with a value below 2^32.
 pub(crate) fn code_number(field: &[u8]) -> Option<u32>
-    ensures { λ r. ⌜ r ≡ codeNumber (now (field .entry)) ⌝ }
+    ensures { λ r. ⌜ r ≡ codeText (now (field .entry)) ⌝ }
 {
     if field.is_empty() || field.len() > MAX_CODE_DIGITS {
         return None;

@@ -9,7 +9,7 @@ use Rattle.std.specs.declared.result.Result.{Result}
 use Rattle.refusals.specs.declared.refusal.Refusal.{Refusal}
 use Rattle.bch.specs.Messages.{messageWords}
 use Rattle.codes.specs.Calls.{Encodes, Takes}
-use Rattle.script_text.specs.Lines.{Meaning, nothing, notUnderstood, callEncode, callTake, meaning}
+use Rattle.script_text.specs.Lines.{Meaning, saysNothing, notUnderstood, callEncode, callTake, meaning}
 use Rattle.session.specs.declared.session.Session.{Session}
 use Rattle.session.specs.Texts.{printed, notUnderstoodText, answerText, wordText, messageText}
 
@@ -40,7 +40,7 @@ pub record TakeLine (old new : Session) (text : List ℕ) : Type 0 where
 
 -- what a line does to a session and what it prints, by what it says
 abbrev pub Does : Meaning → Session → Session → List ℕ → Type 0
-Does nothing old new text = (new ≡ old) × (text ≡ [])
+Does saysNothing old new text = (new ≡ old) × (text ≡ [])
 Does notUnderstood old new text = (new ≡ old) × (text ≡ printed notUnderstoodText)
 Does (callEncode code words) old new text = EncodeLine code words old new text
 Does callTake old new text = TakeLine old new text

@@ -10,8 +10,7 @@ use lib.ListN.{length, getD}
 use Rattle.std.specs.declared.result.Result.the-variants.{Ok, Err}
 use Rattle.std.proofs.shelf.Lists.{ext-getD, getD-map, length-map}
 use Rattle.refusals.specs.declared.refusal.Refusal.{Refusal}
-use Rattle.refusals.specs.declared.refusal.Refusal.the-variants.{NoMessage}
-use Rattle.refusals.specs.Refusals.{Fits, Refused, returned}
+use Rattle.refusals.specs.Refusals.{Fits, Refused, returned, row}
 use Rattle.bch.specs.declared.code.Code.the-variants.{Two}
 use Rattle.bch.specs.Messages.{messageWords, encoding}
 use Rattle.codes.specs.declared.word.Word.{Word}
@@ -40,16 +39,16 @@ all-words bytes m l at =
     (λ i h. let hi : i < messageWords = omega arith in at i hi ∙ sym (getD-words messageWords 0 i bytes hi ∙ ap (recordWord bytes) (zero-add i)))
 
 -- encoding refuses a record under a known code only where its words are no message
-pub send-refused : (bytes samples : List ℕ) (x : Refusal) → Refused (encodeCauses 2 (recordWords bytes)) (returned x) → Sends bytes samples samples (Err x)
+pub send-refused : (bytes samples : List ℕ) (x : Refusal) → Refused (encodeCauses 2 (recordWords bytes)) x (returned x) → Sends bytes samples samples (Err x)
 send-refused bytes samples x h = go (h .fits)
   where
-    go : Fits (encodeCauses 2 (recordWords bytes)) (h .refusal) → Sends bytes samples samples (Err x)
+    go : Fits (encodeCauses 2 (recordWords bytes)) x → Sends bytes samples samples (Err x)
     go (inl f) = absurd (f .1 Two refl)
-    go (inr (inl f)) = (record { refusal = NoMessage; fits = inl (refl, f .1); first = ((λ l. absurd (omega arith)), tt); is = h .is ∙ ap returned (f .0) }, refl)
+    go (inr (inl f)) = (record { fits = inl f; first = ((λ l. absurd (omega (arith, ap row (f .0)))), tt); returns = refl }, refl)
     go (inr (inr f)) = absurd f
 
 pub send-accepted : (bytes old new : List ℕ) (word : Word) → Encoded (recordWords bytes) 2 word → new ≡ map sample (word .bits) → Sends bytes old new (Ok tt)
 send-accepted bytes old new word encoded is = (
   ((λ not. not (encoded .carries .message)), tt),
-  is ∙ ap (map sample) (encoded .built ∙ ap (λ k. encoding k (recordWords bytes)) (code-injective (word .code) Two (encoded .code))),
+  (refl, is ∙ ap (map sample) (encoded .built ∙ ap (λ k. encoding k (recordWords bytes)) (code-injective (word .code) Two (encoded .code)))),
 )

@@ -7,13 +7,19 @@ use lib.ListN.{getD}
 use Rattle.std.specs.declared.result.Result.{Result}
 use Rattle.refusals.specs.declared.refusal.Refusal.{Refusal}
 use Rattle.refusals.specs.declared.refusal.Refusal.the-variants.{NoMessage}
-use Rattle.refusals.specs.Refusals.{Causes, Decides}
+use Rattle.refusals.specs.Refusals.{Causes, Acts}
 use Rattle.bch.specs.declared.code.Code.the-variants.{Two}
 use Rattle.bch.specs.Messages.{messageWords, Message, encoding}
 
--- word i of a record: four bytes, the high one first
+-- the bytes of a 32-bit word
+abbrev pub wordBytes : ℕ
+wordBytes = 4
+
+-- word i of a record, the high byte first
 abbrev pub recordWord : List ℕ → ℕ → ℕ
-recordWord bytes i = getD bytes (4 * i) 0 * 2 ^ 24 + getD bytes (4 * i + 1) 0 * 2 ^ 16 + getD bytes (4 * i + 2) 0 * 2 ^ 8 + getD bytes (4 * i + 3) 0
+recordWord bytes i =
+    let at = wordBytes * i in
+    getD bytes at 0 * 2 ^ 24 + getD bytes (at + 1) 0 * 2 ^ 16 + getD bytes (at + 2) 0 * 2 ^ 8 + getD bytes (at + 3) 0
 
 -- n words of a record, from word i on
 abbrev pub wordsFrom : ℕ → ℕ → List ℕ → List ℕ
@@ -36,4 +42,4 @@ sendCauses bytes = (NoMessage, (Message (recordWords bytes) → ⊥)) ∷ []
 -- sending a record: its bytes, the samples before and after, and the answer; the samples become those of the encoding under
 -- code 2 of the record's words, place by place
 abbrev pub Sends : List ℕ → List ℕ → List ℕ → Result (Unit {0}) Refusal → Type 0
-Sends bytes old new answer = Decides (sendCauses bytes) (λ _ samples. samples ≡ map sample (encoding Two (recordWords bytes))) old new answer
+Sends bytes old new answer = Acts (sendCauses bytes) (λ samples. samples ≡ map sample (encoding Two (recordWords bytes))) old new answer

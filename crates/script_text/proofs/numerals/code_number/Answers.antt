@@ -1,15 +1,15 @@
 use borrow.Author.Needs.{needs}
-use Rattle.script_text.specs.Numerals.{codeNumber}
+use Rattle.script_text.specs.Numerals.{codeText}
 use Rattle.script_text.proofs.numerals.code_number.Needs as need
 
 pub returns-then-is-empty : need.returns-then-is-empty
-unfolding codeNumber
+unfolding codeText
 returns-then-is-empty c = search needs
 
 pub returns-in-Break-n : need.returns-in-Break-n
-unfolding codeNumber
+unfolding codeText
 returns-in-Break-n c = search needs
 
 pub returns : need.returns
-unfolding codeNumber
+unfolding codeText
 returns c = search needs
