@@ -15,13 +15,13 @@ use Rattle.codes.specs.Calls.{Encodes}
 
 pub refuse_code : (words : List ℕ) (number : ℕ) (word : Word) → NoCode number → Encodes words number word word (Err UnknownCode)
 refuse_code words number word none = (
-  record { refusal = UnknownCode; fits = inl (refl, none); first = ((λ l. absurd (omega arith)), ((λ l. absurd (omega arith)), tt)); returns = refl },
+  record { fits = inl (refl, none); first = ((λ l. absurd (omega arith)), ((λ l. absurd (omega arith)), tt)); returns = refl },
   refl,
 )
 
 pub refuse_message : (words : List ℕ) (number : ℕ) (word : Word) (k : Code) → code_number k ≡ number → (Message words → ⊥) → Encodes words number word word (Err NoMessage)
 refuse_message words number word k is not = (
-  record { refusal = NoMessage; fits = inr (inl (refl, not)); first = ((λ _ none. none k is), ((λ l. absurd (omega arith)), tt)); returns = refl },
+  record { fits = inr (inl (refl, not)); first = ((λ _ none. none k is), ((λ l. absurd (omega arith)), tt)); returns = refl },
   refl,
 )
 

@@ -48,7 +48,7 @@ read_carries k w read long r message empty = record {
 }
 
 pub refuse_take : (word : Word) (memory : List ℕ) → ((m : List ℕ) → Carries word.code m word.bits → ⊥) → Takes word memory memory (Err NoMessage)
-refuse_take word memory none = (record { refusal = NoMessage; fits = inl (refl, none); first = ((λ l. absurd (omega arith)), tt); returns = refl }, refl)
+refuse_take word memory none = (record { fits = inl (refl, none); first = ((λ l. absurd (omega arith)), tt); returns = refl }, refl)
 
 pub accept_take : (word : Word) (memory read : List ℕ) → Carries word.code read word.bits → Takes word memory read (Ok tt)
 accept_take word memory read carries = (

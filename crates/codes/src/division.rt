@@ -16,7 +16,7 @@ fn divide_step(rest: u32, place: bool, code: Code) -> u32
 }
 
 // The remainder of a word on division by the code's generator.
-pub(crate) fn divide(bits: &[bool; PLACES], code: Code) -> u32
+pub fn divide(bits: &[bool; PLACES], code: Code) -> u32
     ensures value { result ≡ remainder (parity code) (generator code) bits.now }
     ensures divided { Divided (parity code) (generator code) bits.now result }
 {
@@ -28,7 +28,7 @@ pub(crate) fn divide(bits: &[bool; PLACES], code: Code) -> u32
 }
 
 // The remainder written into the parity places.
-pub(crate) fn lay_parity(rest: u32, code: Code, places: &mut [bool; PLACES])
+pub fn lay_parity(rest: u32, code: Code, places: &mut [bool; PLACES])
     ensures { places.new ≡ bits (parity code) rest ++ drop (parity code) places.old }
 {
     for i in 0..code.parity() {

@@ -1,4 +1,6 @@
 // Corrected words, and messages put into them and taken out.
+#![tactic(auto)]
+
 mod division;
 mod encoding;
 mod message;

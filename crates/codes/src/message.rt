@@ -12,7 +12,7 @@ const KIND_SHIFT: u32 = 30;
 const MESSAGE_KIND: u32 = 1;
 
 // Whether the words are a message.
-pub(crate) fn is_message(words: &[u32]) -> bool
+pub fn is_message(words: &[u32]) -> bool
     ensures yes { result ≡ true → Message words.now }
     ensures no { result ≡ false → Message words.now → ⊥ }
 {
@@ -28,7 +28,7 @@ pub(crate) fn is_message(words: &[u32]) -> bool
 }
 
 // The message's bits written to their places, of which the first is `from`.
-pub(crate) fn lay_message(words: &[u32], from: usize, bits: &mut [bool; PLACES])
+pub fn lay_message(words: &[u32], from: usize, bits: &mut [bool; PLACES])
     requires count { length words.now ≡ message_words }
     requires room { from + word_bits * message_words ≤ places }
     ensures { Laid words.now from bits.old bits.new }

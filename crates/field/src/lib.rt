@@ -1,4 +1,6 @@
 // The field of bytes: polynomials over GF(2) modulo x^8 + x^4 + x^3 + x^2 + 1, with α = 2. Its sum is `^`.
+#![tactic(auto)]
+
 ghost use Rattle.std.specs.Prelude.{◌≡◌};
 ghost use Rattle.galois.specs.Field.{Laws};
 ghost use Rattle.field.specs.Bytes.{bytes, Logarithm};

@@ -1,4 +1,6 @@
 // Numbers, words and bytes as text: how a script writes them, and how they are printed.
+#![tactic(auto)]
+
 mod input;
 mod output;
 

@@ -1,4 +1,6 @@
 // Orders with laws, and keeping the least few elements in order.
+#![tactic(auto)]
+
 mod carrying;
 mod kept;
 mod ordered;

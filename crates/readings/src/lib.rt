@@ -1,4 +1,6 @@
 // A burst as a reading: bits by place, and how strong each is.
+#![tactic(auto)]
+
 mod bytes;
 mod grade;
 mod graded;

@@ -16,7 +16,6 @@ module _ (l : List (Option Bool)) (number : ℕ) where
   module _ (k : Code) (is : code_number k ≡ number) where
     pub refuse_length : (length l ≡ places → ⊥) → Receives l number (Err WrongLength)
     refuse_length not = record {
-      refusal = WrongLength;
       fits = inr (inl (refl, not));
       first = ((λ _ none. none k is), ((λ b. absurd (omega arith)), ((λ b. absurd (omega arith)), tt)));
       returns = refl;
@@ -24,7 +23,6 @@ module _ (l : List (Option Bool)) (number : ℕ) where
 
     pub refuse_unsound : length l ≡ places → (x : Refusal) → Copies l (Err x) → Receives l number (Err x)
     refuse_unsound long x (p, stops, low) = record {
-      refusal = x;
       fits = inr (inr (inl (stops ∙ ap Unsound (sym (lowest_is l p low)), (p, low.unsound))));
       first = ((λ _ none. none k is), ((λ _ not. not long), ((λ b. absurd (omega (arith, ap row stops))), tt)));
       returns = refl;

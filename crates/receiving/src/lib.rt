@@ -1,4 +1,6 @@
 // The received word: the bits of a reading, or why there are none; and whether they are a codeword.
+#![tactic(auto)]
+
 mod received;
 mod sums;
 mod testing;

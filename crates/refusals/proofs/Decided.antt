@@ -13,7 +13,7 @@ module _ {S : Type 0} (cs : Causes) (Done : S → Type 0) (old new : S) where
   -- where no cause holds, the call is accepted
   pub acts_accepted : (r : Result (Unit {0}) Refusal) → NoCause cs → Acts cs Done old new r → is_ok r ≡ true
   acts_accepted (Ok x) n d = refl
-  acts_accepted (Err x) n d = absurd (none_fits cs d.0.refusal n d.0.fits)
+  acts_accepted (Err x) n d = absurd (none_fits cs x n d.0.fits)
 
   -- what an accepted call made
   pub acts_made : (r : Result (Unit {0}) Refusal) → is_ok r ≡ true → Acts cs Done old new r → Done new

@@ -55,18 +55,17 @@ abbrev pub NoCause : Causes → Type 0
 NoCause [] = Unit {0}
 NoCause (c ∷ cs) = (c.1 → ⊥) × NoCause cs
 
--- what is returned is what the first row of the table whose cause holds returns
-pub record Refused (cs : Causes) (out : List ℕ) : Type 0 where
-  pub refusal : Refusal
-  pub fits : Fits cs refusal
-  pub first : NoneBefore cs refusal
-  pub returns : out ≡ returned refusal
+-- the refusal x stands in the first row of the table whose cause holds, and what is returned is what that row returns
+pub record Refused (cs : Causes) (x : Refusal) (out : List ℕ) : Type 0 where
+  pub fits : Fits cs x
+  pub first : NoneBefore cs x
+  pub returns : out ≡ returned x
 
 -- A call that may turn `old` into `new`, and whose accepted answers have the numbers that `answers` gives: refused by the first
 -- row of the table whose cause holds, with nothing changed; or, where no cause holds, accepted, and then Done says what it
 -- answered and made.
 abbrev pub Decides : {S X : Type 0} → Causes → (X → List ℕ) → (X → S → Type 0) → S → S → Result X Refusal → Type 0
-Decides cs answers Done old new (Err x) = Refused cs (outcome answers (Err x)) × (new ≡ old)
+Decides cs answers Done old new (Err x) = Refused cs x (outcome answers (Err x)) × (new ≡ old)
 Decides cs answers Done old new (Ok a) = NoCause cs × Done a new
 
 -- a call whose answer is nothing else: accepted, it returns 0, and Done says what it made
@@ -76,5 +75,5 @@ Acts cs Done old new r = Decides cs nothing (λ _ made. (outcome nothing r ≡ 0
 -- A call that changes nothing: refused by the first row of the table whose cause holds; or, where no cause holds, accepted, and
 -- then Done says what it answered.
 abbrev pub Tells : {X : Type 0} → Causes → (X → Type 0) → Result X Refusal → Type 0
-Tells cs Done (Err x) = Refused cs (returned x)
+Tells cs Done (Err x) = Refused cs x (returned x)
 Tells cs Done (Ok a) = NoCause cs × Done a

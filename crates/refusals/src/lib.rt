@@ -1,4 +1,6 @@
 // Why a call may be refused. One enum for every call of the receiver, in the order of the table of refusals.
+#![tactic(auto)]
+
 mod numbers;
 mod refusal;
 

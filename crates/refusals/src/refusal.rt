@@ -1,6 +1,6 @@
 #[derive(Clone, Copy, PartialEq, Eq, Debug)]
 pub enum Refusal {
-    // No code has the number.
+    // The code number is neither 2 nor 3.
     UnknownCode,
     // The reading has not as many places as a word.
     WrongLength,

@@ -1,4 +1,6 @@
 // What a line of a script says.
+#![tactic(auto)]
+
 mod given;
 mod lines;
 

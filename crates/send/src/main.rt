@@ -1,5 +1,7 @@
 // Reads messages of 28 bytes each from standard input and writes, for each, the 255 samples of its encoding under code 2.
 // A record that is no message is passed over, and a last one that is cut short is not used.
+#![tactic(auto)]
+
 ghost use Rattle.std.specs.Prelude.{◌≤◌, length, IfOk};
 
 use bch::PLACES;

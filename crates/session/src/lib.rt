@@ -1,5 +1,9 @@
 // What `stocktake` does with a script, line by line.
-mod session;
-mod testing;
+#![tactic(auto)]
 
+mod packing;
+mod session;
+mod texts;
+
+pub use packing::packed;
 pub use session::Session;

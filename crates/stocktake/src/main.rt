@@ -1,4 +1,6 @@
 // Replays a script of calls, one a line, and prints what each answers.
+#![tactic(auto)]
+
 ghost use Rattle.stocktake.specs.Lines.{WithoutNewline};
 
 use session::Session;

@@ -1,4 +1,6 @@
 // The weak list of a soft reading: its places of least strength, weakest first.
+#![tactic(auto)]
+
 mod keeping;
 mod list;
 mod listing;

@@ -31,12 +31,12 @@ all_words bytes m l at =
     (λ i h. let hi : i < message_words = omega arith in at i hi ∙ sym (get_or_words message_words 0 i bytes hi ∙ ap (record_word bytes) (zero-add i)))
 
 -- encoding refuses a record under a known code only where its words are no message
-pub send_refused : (bytes samples : List ℕ) (x : Refusal) → Refused (encode_causes 2 (record_words bytes)) (returned x) → Sends bytes samples samples (Err x)
+pub send_refused : (bytes samples : List ℕ) (x : Refusal) → Refused (encode_causes 2 (record_words bytes)) x (returned x) → Sends bytes samples samples (Err x)
 send_refused bytes samples x h = go h.fits
   where
-    go : Fits (encode_causes 2 (record_words bytes)) h.refusal → Sends bytes samples samples (Err x)
+    go : Fits (encode_causes 2 (record_words bytes)) x → Sends bytes samples samples (Err x)
     go (inl f) = absurd (f.1 Two refl)
-    go (inr (inl f)) = (record { refusal = h.refusal; fits = inl f; first = ((λ l. absurd (omega (arith, ap row f.0))), tt); returns = h.returns }, refl)
+    go (inr (inl f)) = (record { fits = inl f; first = ((λ l. absurd (omega (arith, ap row f.0))), tt); returns = refl }, refl)
     go (inr (inr f)) = absurd f
 
 pub send_accepted : (bytes old new : List ℕ) (word : Word) → Encoded (record_words bytes) 2 word → new ≡ map sample word.bits → Sends bytes old new (Ok tt)

@@ -1,4 +1,6 @@
 // Bytes on the way to a tag: records that hold messages, and samples that hold words.
+#![tactic(auto)]
+
 ghost use Rattle.std.specs.Prelude.{◌≡◌, map};
 ghost use Rattle.wire.specs.Bytes.{record_words, sample, Sends};
 

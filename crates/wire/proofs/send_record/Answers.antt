@@ -11,7 +11,7 @@ returns-in-err-encode c =
     let p = err_from_is_err_and c.from-residual.result c.from-residual.ensures.1 in
     let told = c.in-err-encode.ensures.call.0 in
     let refusal = c.in-err-encode.field-0.0 in
-    rw (p.1, p.2) (send_refused c.args.bytes.now c.args.samples.now refusal (subst (λ m. Refused (encode_causes 2 m) (returned refusal)) c.record-words-words.ensures told))
+    rw (p.1, p.2) (send_refused c.args.bytes.now c.args.samples.now refusal (subst (λ m. Refused (encode_causes 2 m) refusal (returned refusal)) c.record-words-words.ensures told))
 
 pub returns : goal.returns
 returns c =

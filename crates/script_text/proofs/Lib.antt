@@ -1,0 +1,5 @@
+pub mod Ending
+pub mod Reading
+pub mod Rows
+pub mod Splitting
+pub mod Writing

@@ -1,0 +1,47 @@
+-- The first field of a text, by where its first space is. Assumes nothing.
+use Rattle.std.proofs.Common.{◌≡◌, ℕ, zero, suc, ◌+◌, ◌<◌, eqb, List, [], ◌∷◌, ◌++◌, length, get_or, take, drop, sym, refl, ap, ◌∙◌, subst, add-one, arith}
+use Rattle.std.proofs.lemmas.List.{take-append-drop, drop_more, length-take-le, get_or-take}
+use Rattle.std.proofs.lemmas.Bool.{cond-true, cond-false, cond_both, eq-eqb, ne_eqb}
+use Rattle.script_text.specs.Fields.{Solid, begun, fields}
+
+-- no space stands below n
+abbrev pub NoSpace : List ℕ → ℕ → Type 0
+NoSpace bs n = (k : ℕ) → k < n → get_or bs k 0 ≡ 32 → ⊥
+
+at_space : (bs : List ℕ) (i : ℕ) → i < length bs → NoSpace bs i → get_or bs i 0 ≡ 32 → fields bs ≡ take i bs ∷ fields (drop (suc i) bs)
+unfolding fields
+at_space [] i h no_space e = absurd (omega arith)
+at_space (b ∷ bs) zero h no_space e = cond-true (eqb b 32) _ _ (eq-eqb b 32 e)
+at_space (b ∷ bs) (suc i) h no_space e =
+    cond-false (eqb b 32) _ _ (ne_eqb b 32 (no_space 0 (omega arith)))
+    ∙ ap (begun b) (at_space bs i (omega arith) (λ k l. no_space (suc k) (omega arith)) e)
+
+pub no_more : (bs : List ℕ) (n : ℕ) → length bs ≡ n → NoSpace bs n → fields bs ≡ bs ∷ []
+unfolding fields
+no_more [] n e no_space = refl
+no_more (b ∷ bs) n e no_space =
+    cond-false (eqb b 32) _ _ (ne_eqb b 32 (no_space 0 (omega arith)))
+    ∙ ap (begun b) (no_more bs (length bs) refl (λ k l. no_space (suc k) (omega arith)))
+
+pub split_fields : (bs : List ℕ) (i : ℕ) → i < length bs → NoSpace bs i → get_or bs i 0 ≡ 32 → fields bs ≡ take i bs ∷ fields (drop (i + 1) bs)
+split_fields bs i h no_space e = rw add-one (at_space bs i h no_space e)
+
+pub split_parts : (bs : List ℕ) (i : ℕ) → i < length bs → get_or bs i 0 ≡ 32 → bs ≡ take i bs ++ 32 ∷ drop (i + 1) bs
+split_parts bs i h e =
+    sym (take-append-drop i bs) ∙ ap (λ l. take i bs ++ l) (drop_more bs i 0 h ∙ ap (λ b. b ∷ drop (i + 1) bs) e)
+
+-- what stands before the first space
+pub split_solid : (bs : List ℕ) (i : ℕ) → i < length bs → NoSpace bs i → Solid (take i bs)
+split_solid bs i h no_space k l e =
+    let inside : k < i = subst (λ n. k < n) (length-take-le i bs (omega arith)) l in
+    no_space k inside (sym (get_or-take i bs k 0 inside) ∙ e)
+
+begun_some : (b : ℕ) (fs : List (List ℕ)) → (f : List ℕ) × ((rest : List (List ℕ)) × (begun b fs ≡ f ∷ rest))
+begun_some b [] = (b ∷ [], ([], refl))
+begun_some b (f ∷ fs) = (b ∷ f, (fs, refl))
+
+-- a text has at least one field
+pub some_field : (bs : List ℕ) → (f : List ℕ) × ((rest : List (List ℕ)) × (fields bs ≡ f ∷ rest))
+unfolding fields
+some_field [] = ([], ([], refl))
+some_field (b ∷ bs) = cond_both (eqb b 32) _ _ (λ fs. (f : List ℕ) × ((rest : List (List ℕ)) × (fs ≡ f ∷ rest))) (λ e. ([], (fields bs, refl))) (λ e. begun_some b (fields bs))

@@ -1,0 +1,15 @@
+use Rattle.std.proofs.Common.{◌≡◌, sym, ◌∙◌}
+use Rattle.std.proofs.lemmas.Result.{IfOk-weaker}
+use Rattle.script_text.specs.Fields.{fields_left}
+use Rattle.script_text.specs.Lines.{call_row, meaning}
+use Rattle.script_text.specs.Seen.{seen}
+use Rattle.script_text.proofs.Rows.{says_nothing_lem, says_call}
+use Rattle.script_text.proofs.lines.parse.Goals as goal
+
+pub returns : goal.returns
+returns c =
+    let told = says_call c.args.line.now c.without-return-text.result.now c.split-field.result.0.now (fields_left c.split-field.result.1) c.without-return-text.ensures (sym c.if-is-quiet.ensures) c.split-field.ensures.fields in
+    IfOk-weaker c.call-row.result (λ l. seen l ≡ call_row c.split-field.result.0.now (fields_left c.split-field.result.1)) (λ l. seen l ≡ meaning c.args.line.now) (λ l e. e ∙ sym told) c.call-row.ensures
+
+pub returns-then-is-quiet : goal.returns-then-is-quiet
+returns-then-is-quiet c = sym (says_nothing_lem c.args.line.now c.without-return-text.result.now c.without-return-text.ensures (sym c.if-is-quiet.ensures))

@@ -1,0 +1,12 @@
+use Rattle.std.proofs.Common.{vec_items, sym, refl, ◌∙◌, arith, rules}
+use Rattle.std.proofs.lemmas.Slice.{pushed}
+use Rattle.script_text.proofs.Writing.{byte_more, bytes_done}
+use Rattle.script_text.proofs.output.push_bytes_text.Goals as goal
+
+pub loop-b-preserved : goal.loop-b-preserved
+loop-b-preserved c =
+    byte_more (vec_items c.loop-b.out) (vec_items c.extend-from-slice.new.self) c.byte-text-text.result c.args.bytes.now c.loop-b.b-index (omega arith) (search rules) (pushed c.byte-text-text.result refl c.in-ok-extend-from-slice.was c.extend-from-slice.ensures.items)
+    ∙ c.loop-b.invariant
+
+pub returns : goal.returns
+returns c = sym (bytes_done (vec_items c.loop-b.out) c.args.bytes.now c.loop-b.b-index (omega arith)) ∙ c.loop-b.invariant
