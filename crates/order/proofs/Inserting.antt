@@ -1,6 +1,6 @@
 -- What insertion keeps. Assumes nothing.
 use Rattle.std.proofs.Common.{◌≡◌, ℕ, zero, suc, ◌<◌, Bool, true, false, cond, List, [], ◌∷◌, ◌++◌, map, length, get_or, take, refl, ap, arith}
-use Rattle.std.specs.List.{ContainsAt as Has, AllByRecursion as All}
+use Rattle.std.specs.List.{ContainsAt as Has, AllByRecursion}
 use Rattle.std.proofs.ByRecursion.{All-take, All-weaker, All-get_or}
 use Rattle.order.specs.Order.{Pairwise, InOrder, insert}
 
@@ -40,17 +40,17 @@ module _ {E : Type 0} (at_most : E → E → Bool) where
       by true e = ap suc e
       by false e = refl
 
-  pub all_insert : (P : E → Type 0) (x : E) (l : List E) → P x → All P l → All P (insert at_most x l)
+  pub all_insert : (P : E → Type 0) (x : E) (l : List E) → P x → AllByRecursion P l → AllByRecursion P (insert at_most x l)
   unfolding insert
   all_insert P x [] h a = (h, tt)
   all_insert P x (z ∷ l) h a = by (at_most z x) (all_insert P x l h a.1)
     where
-      by : (t : Bool) → All P (insert at_most x l) → All P (cond t (z ∷ insert at_most x l) (x ∷ z ∷ l))
+      by : (t : Bool) → AllByRecursion P (insert at_most x l) → AllByRecursion P (cond t (z ∷ insert at_most x l) (x ∷ z ∷ l))
       by true more = (a.0, more)
       by false more = (h, a)
 
   -- a relation that holds between x and each element, both ways
-  pub pairwise_insert : (R : E → E → Type 0) (x : E) (l : List E) → All (R x) l → All (λ y. R y x) l → Pairwise R l → Pairwise R (insert at_most x l)
+  pub pairwise_insert : (R : E → E → Type 0) (x : E) (l : List E) → AllByRecursion (R x) l → AllByRecursion (λ y. R y x) l → Pairwise R l → Pairwise R (insert at_most x l)
   unfolding insert
   pairwise_insert R x [] to from o = (tt, tt)
   pairwise_insert R x (y ∷ l) to from o = by (at_most y x) (pairwise_insert R x l to.1 from.1 o.1)
@@ -83,7 +83,7 @@ module _ {E : Type 0} (at_most : E → E → Bool) where
       by false h = (suc (suc k), omega arith, e)
 
   module _ (transitive : (a b c : E) → at_most a b ≡ true → at_most b c ≡ true → at_most a c ≡ true) where
-    all_last : (y z : E) (l : List E) → All (λ w. at_most y w ≡ true) (l ++ z ∷ []) → at_most y z ≡ true
+    all_last : (y z : E) (l : List E) → AllByRecursion (λ w. at_most y w ≡ true) (l ++ z ∷ []) → at_most y z ≡ true
     all_last y z [] a = a.0
     all_last y z (w ∷ l) a = all_last y z l a.1
 

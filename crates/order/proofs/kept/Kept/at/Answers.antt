@@ -26,6 +26,6 @@ pub returns-in-5 : goal.returns-in-5
 unfolding slots
 returns-in-5 g c = search rules
 
-pub returns-in-default : goal.returns-in-default
+pub returns-in_default : goal.returns-in_default
 unfolding slots
-returns-in-default g c = search rules
+returns-in_default g c = search rules
