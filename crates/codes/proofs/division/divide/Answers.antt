@@ -8,12 +8,12 @@ use Rattle.codes.proofs.division.divide.Goals as goal
 pub loop-i-init : goal.loop-i-init
 loop-i-init c = divide_none (parity c.args.code) (generator c.args.code) c.args.bits.now 255 (omega arith)
 
-pub divide-step-rest-requires : goal.divide-step-rest-requires
-divide-step-rest-requires c = rw c.loop-i.invariant (remainder_lt (degree c.args.code) (drop c.loop-i.i c.args.bits.now))
+pub divide_step-rest-requires : goal.divide_step-rest-requires
+divide_step-rest-requires c = rw c.loop-i.invariant (remainder_lt (degree c.args.code) (drop c.loop-i.i c.args.bits.now))
 
 pub loop-i-preserved : goal.loop-i-preserved
 loop-i-preserved c =
-    divide_more (parity c.args.code) (generator c.args.code) c.args.bits.now c.loop-i.i c.loop-i.rest _ c.loop-i-test.true (omega arith) c.loop-i.invariant c.divide-step-rest.ensures
+    divide_more (parity c.args.code) (generator c.args.code) c.args.bits.now c.loop-i.i c.loop-i.rest _ c.loop-i-test.true (omega arith) c.loop-i.invariant c.divide_step-rest.ensures
 
 pub returns : goal.returns
 returns c =

@@ -3,11 +3,11 @@ use Rattle.codes.proofs.Reading.{read_room, read_more}
 use Rattle.galois.proofs.Words.{digit_lt, byte_digit}
 use Rattle.codes.proofs.taking.word_at.Goals as goal
 
-pub overflow-mul-value : goal.overflow-mul-value
-overflow-mul-value c = omega (arith, c.loop-b.invariant, read_room c.args.bits.now c.args.from c.loop-b.b c.loop-b-test.true)
+pub overflow_mul-value : goal.overflow_mul-value
+overflow_mul-value c = omega (arith, c.loop-b.invariant, read_room c.args.bits.now c.args.from c.loop-b.b c.loop-b-test.true)
 
-pub overflow-add-value : goal.overflow-add-value
-overflow-add-value c =
+pub overflow_add-value : goal.overflow_add-value
+overflow_add-value c =
     let place = get_or c.args.bits.now (c.args.from + (c.loop-b.b - 1)) false in
     let room = read_room c.args.bits.now c.args.from c.loop-b.b c.loop-b-test.true in
     omega (arith, c.loop-b.invariant, room, c.from.ensures ∙ byte_digit place, digit_lt place)

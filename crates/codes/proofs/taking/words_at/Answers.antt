@@ -6,5 +6,5 @@ loop-i-preserved c = (
   simp length-set c.loop-i.invariant.0,
   below_more _ _
       (λ j h. let ne : j ≢ c.loop-i.i = omega arith in rw get_or-set_other (c.loop-i.invariant.1 j h))
-      (let lt : c.loop-i.i < length c.loop-i.words = omega arith in rw get_or-set_same c.word-at.ensures),
+      (let lt : c.loop-i.i < length c.loop-i.words = omega arith in rw get_or-set_same c.word_at.ensures),
 )
