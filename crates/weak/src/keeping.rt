@@ -21,8 +21,8 @@ fn weak_count(code: Code) -> usize
 
 // Asks every place's strength once, and keeps the weakest. Every place is sound, so each has one.
 fn keep<R: Soft>(reading: &R) -> Kept<WeakPlace<R::Kind>>
-    requires { Whole (burst R.Hard R.Soft R.Kind.Strength R.Kind.Ordered reading.now).places }
-    ensures { KeepsWeakest (burst R.Hard R.Soft R.Kind.Strength R.Kind.Ordered reading.now) (R.Soft.strengths reading.now) result }
+    requires { Whole (burst R.Hard R.Soft.own R.Kind.Strength.own R.Kind.Ordered reading.now).places }
+    ensures { KeepsWeakest (burst R.Hard R.Soft.own R.Kind.Strength.own R.Kind.Ordered reading.now) (R.Soft.strengths reading.now) result }
 {
     let mut least = Kept::new();
     for place in 0..PLACES {
@@ -48,8 +48,8 @@ fn kept_places<S: Strength>(least: &Kept<WeakPlace<S>>) -> [usize; KEPT]
 
 // The weak list of a reading of 255 sound places.
 pub fn weakest<R: Soft>(reading: &R, code: Code) -> WeakList
-    requires { Whole (burst R.Hard R.Soft Kind-as-Strength Kind-as-Ordered reading.now).places }
-    ensures { WeakListOf (2 * code_number code) (burst R.Hard R.Soft Kind-as-Strength Kind-as-Ordered reading.now) (listed result) }
+    requires { Whole (burst R.Hard R.Soft.own R.Kind.Strength.own R.Kind.Ordered reading.now).places }
+    ensures { WeakListOf (2 * code_number code) (burst R.Hard R.Soft.own R.Kind.Strength.own R.Kind.Ordered reading.now) (listed result) }
 {
     let least = keep(reading);
     WeakList::new(kept_places(&least), weak_count(code))

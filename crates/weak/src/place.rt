@@ -1,7 +1,7 @@
 // A strength with its place, ordered by strength and then by the tie rule.
 ghost use Rattle.std.specs.Prelude.{◌≡◌};
 ghost use Rattle.weak.specs.Turns.{tie, weak_at_most};
-ghost use Rattle.weak.specs.InTurns.{turn-total, turn-transitive};
+ghost use Rattle.weak.specs.InTurns.{turn_total, turn_transitive};
 
 use order::Ordered;
 use readings::Strength;
@@ -22,9 +22,9 @@ fn wins_tie(place: usize, other: usize) -> bool
 impl<S: Strength> Ordered for WeakPlace<S> {
     ghost at_most = { weak_at_most S.Ordered.at_most };
 
-    ghost total = { turn-total (λ a b. S.Ordered.at_most a.strength b.strength) (λ a. a.place) (λ a b. S.Ordered.total a.strength b.strength) };
+    ghost total = { turn_total (λ a b. S.Ordered.at_most a.strength b.strength) (λ a. a.place) (λ a b. S.Ordered.total a.strength b.strength) };
 
-    ghost transitive = { turn-transitive (λ a b. S.Ordered.at_most a.strength b.strength) (λ a. a.place) (λ a b c. S.Ordered.transitive a.strength b.strength c.strength) };
+    ghost transitive = { turn_transitive (λ a b. S.Ordered.at_most a.strength b.strength) (λ a. a.place) (λ a b c. S.Ordered.transitive a.strength b.strength c.strength) };
 
     fn is_at_most(&self, other: &WeakPlace<S>) -> bool {
         self.strength.is_at_most(&other.strength)

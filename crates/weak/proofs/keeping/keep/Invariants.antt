@@ -11,5 +11,5 @@ use Rattle.weak.proofs.keeping.keep.Given as goal
 -- the slots hold the first of the places asked so far, in turn
 abbrev pub invariant-loop-place : goal.invariant-loop-place
 invariant-loop-place g l =
-    (slots l.least ≡ padded slot_count (map (weak_place (g.R.Soft.strengths l.reading)) (ranked (burst g.R.Hard g.R.Soft g.Kind.Strength g.Kind.Ordered l.reading) l.place)))
-    × InOrder (slot_at_most (weak_at_most g.Kind.Ordered.at_most)) (slots l.least)
+    (slots l.least ≡ padded slot_count (map (weak_place (g.R.Soft.strengths l.reading)) (ranked (burst g.R.Hard g.R.Soft g.R.Kind.Strength g.R.Kind.Ordered l.reading) l.place)))
+    × InOrder (slot_at_most (weak_at_most g.R.Kind.Ordered.at_most)) (slots l.least)

@@ -5,13 +5,13 @@ use Rattle.receiving.proofs.Deciding.{refuse_length, refuse_unsound, accept}
 use Rattle.receiving.proofs.received.Received.of.Goals as goal
 
 pub returns-then-len-ne-PLACES : goal.returns-then-len-ne-PLACES
-returns-then-len-ne-PLACES g c = refuse_length _ _ c.in-ok-code.code c.in-ok-code.ensures (omega arith)
+returns-then-len-ne-PLACES g c = refuse_length _ _ c.in_ok-code.code c.in_ok-code.ensures (omega arith)
 
-pub returns-in-err-bits : goal.returns-in-err-bits
-returns-in-err-bits g c =
-    let p = err_from_is_err_and c.from-residual-in-err-bits.result c.from-residual-in-err-bits.ensures.1 in
-    rw (p.1, p.2) (refuse_unsound _ _ c.in-ok-code.code c.in-ok-code.ensures (omega arith) _ c.in-err-bits.ensures)
+pub returns-in_err-bits : goal.returns-in_err-bits
+returns-in_err-bits g c =
+    let p = err_from_is_err_and c.from_residual-in_err-bits.result c.from_residual-in_err-bits.ensures.1 in
+    rw (p.1, p.2) (refuse_unsound _ _ c.in_ok-code.code c.in_ok-code.ensures (omega arith) _ c.in_err-bits.ensures)
 
 pub returns : goal.returns
 unfolding received_bits
-returns g c = accept _ _ c.in-ok-code.code c.in-ok-code.ensures _ (omega arith) refl c.in-ok-bits.ensures
+returns g c = accept _ _ c.in_ok-code.code c.in_ok-code.ensures _ (omega arith) refl c.in_ok-bits.ensures
