@@ -7,33 +7,30 @@ use readings::{Class, Grade, Graded, Hard, Signed, Soft};
 use receiving::is_codeword;
 use refusals::Refusal;
 use std::process::Abort;
-use std::test::Fail;
 use weak::weak_list;
 
 // A signed byte, as bit and strength.
-fn signed_place(rt: &impl Abort, byte: u8, bit: bool, strength: u8) -> Result<(), Fail> {
+fn signed_place(rt: &impl Abort, byte: u8, bit: bool, strength: u8) {
     let bytes = [byte];
     let reading = Signed::new(&bytes);
     assert!(rt; reading.bit(0) == Some(bit));
     match reading.strength(0) {
         Some(magnitude) => {
             assert_eq!(rt; magnitude.value, strength);
-            Ok(())
         },
         None => {
             assert!(rt; false, "a sound place has a strength");
-            Ok(())
         },
     }
 }
 
 #[test]
-fn signed_bytes_are_bits_with_magnitudes(rt: HostRuntime) -> Result<(), Fail> {
-    signed_place(&rt, 0x7F, true, 127)?;
-    signed_place(&rt, 0x00, true, 0)?;
-    signed_place(&rt, 0xFF, false, 1)?;
-    signed_place(&rt, 0x81, false, 127)?;
-    signed_place(&rt, least_sample(), false, 128)
+fn signed_bytes_are_bits_with_magnitudes(rt: HostRuntime) {
+    signed_place(&rt, 0x7F, true, 127);
+    signed_place(&rt, 0x00, true, 0);
+    signed_place(&rt, 0xFF, false, 1);
+    signed_place(&rt, 0x81, false, 127);
+    signed_place(&rt, least_sample(), false, 128);
 }
 
 #[test]
@@ -52,37 +49,29 @@ fn beyond_the_last_place_nothing_is_told(rt: HostRuntime) {
 }
 
 // The grade at a place.
-fn graded_strength(
-    rt: &impl Abort,
-    reading: &Graded,
-    place: usize,
-    class: Class,
-    level: u8,
-) -> Result<(), Fail> {
+fn graded_strength(rt: &impl Abort, reading: &Graded, place: usize, class: Class, level: u8) {
     match reading.strength(place) {
         Some(grade) => {
             assert!(rt; grade.class == class && grade.level == level);
-            Ok(())
         },
         None => {
             assert!(rt; false, "a sound place has a strength");
-            Ok(())
         },
     }
 }
 
 #[test]
-fn graded_bytes_are_bits_with_grades(rt: HostRuntime) -> Result<(), Fail> {
+fn graded_bytes_are_bits_with_grades(rt: HostRuntime) {
     let bytes = graded_bytes();
     let reading = Graded::new(&bytes);
     assert!(rt; reading.bit(0) == Some(true));
-    graded_strength(&rt, &reading, 0, Class::Clear, 5)?;
+    graded_strength(&rt, &reading, 0, Class::Clear, 5);
     assert!(rt; reading.bit(1) == None, "unsound");
     assert!(rt; reading.strength(1).is_none(), "unsound");
     assert!(rt; reading.bit(2) == Some(false));
-    graded_strength(&rt, &reading, 2, Class::Lost, 0)?;
+    graded_strength(&rt, &reading, 2, Class::Lost, 0);
     assert!(rt; reading.bit(3) == Some(false));
-    graded_strength(&rt, &reading, 3, Class::Lost, 31)
+    graded_strength(&rt, &reading, 3, Class::Lost, 31);
 }
 
 // Whether the grade of the first byte is at most that of the second.
@@ -114,74 +103,65 @@ fn grades_compare_by_class_and_then_by_level(rt: HostRuntime) {
 }
 
 // The weak list of a reading under a code.
-fn lists<R: Soft>(rt: &impl Abort, reading: &R, number: u32, places: &[usize]) -> Result<(), Fail> {
+fn lists<R: Soft>(rt: &impl Abort, reading: &R, number: u32, places: &[usize]) {
     match weak_list(reading, number) {
         Ok(list) => {
             assert!(rt; list.places() == places);
-            Ok(())
         },
         Err(_) => {
             assert!(rt; false, "a sound reading has a weak list");
-            Ok(())
         },
     }
 }
 
 // The weak lists of a reading: under code 3, and the first four under code 2.
-fn listed<R: Soft>(rt: &impl Abort, reading: &R, places: [usize; 6]) -> Result<(), Fail> {
-    lists(rt, reading, 2, &places[0..4])?;
-    lists(rt, reading, 3, &places)
+fn listed<R: Soft>(rt: &impl Abort, reading: &R, places: [usize; 6]) {
+    lists(rt, reading, 2, &places[0..4]);
+    lists(rt, reading, 3, &places);
 }
 
 #[test]
-fn equal_strengths_list_the_lowest_places(rt: HostRuntime) -> Result<(), Fail> {
+fn equal_strengths_list_the_lowest_places(rt: HostRuntime) {
     let bytes = [0x5F; PLACES];
-    listed(&rt, &Signed::new(&bytes), equal_strengths())?;
-    listed(&rt, &Graded::new(&bytes), equal_strengths())
+    listed(&rt, &Signed::new(&bytes), equal_strengths());
+    listed(&rt, &Graded::new(&bytes), equal_strengths());
 }
 
 #[test]
-fn the_weakest_samples_come_first(rt: HostRuntime) -> Result<(), Fail> {
+fn the_weakest_samples_come_first(rt: HostRuntime) {
     let mut bytes = [0x81; PLACES];
     bytes[254] = 0x00;
     bytes[10] = 0x01;
     bytes[3] = 0xFF;
     bytes[200] = 0x02;
-    listed(&rt, &Signed::new(&bytes), [254, 3, 10, 200, 0, 1])
+    listed(&rt, &Signed::new(&bytes), [254, 3, 10, 200, 0, 1]);
 }
 
 #[test]
-fn the_weakest_grades_come_first(rt: HostRuntime) -> Result<(), Fail> {
+fn the_weakest_grades_come_first(rt: HostRuntime) {
     let mut bytes = [0xDF; PLACES];
     bytes[7] = 0x1F;
     bytes[253] = 0x80;
     bytes[5] = 0x20;
     bytes[6] = 0x3F;
-    listed(&rt, &Graded::new(&bytes), [7, 253, 5, 6, 0, 1])
+    listed(&rt, &Graded::new(&bytes), [7, 253, 5, 6, 0, 1]);
 }
 
 // A reading that both calls refuse so.
-fn refused<R: Soft>(
-    rt: &impl Abort,
-    reading: &R,
-    number: u32,
-    refusal: Refusal,
-) -> Result<(), Fail> {
+fn refused<R: Soft>(rt: &impl Abort, reading: &R, number: u32, refusal: Refusal) {
     assert!(rt; is_codeword(reading, number) == Err(refusal));
     match weak_list(reading, number) {
         Ok(_) => {
             assert!(rt; false, "the weak list is refused too");
-            Ok(())
         },
         Err(same) => {
             assert!(rt; same == refusal);
-            Ok(())
         },
     }
 }
 
 #[test]
-fn readings_are_refused_by_the_first_cause(rt: HostRuntime) -> Result<(), Fail> {
+fn readings_are_refused_by_the_first_cause(rt: HostRuntime) {
     let mut bytes = [0x40; 256];
     bytes[9] = 0x60;
     bytes[100] = 0xE0;
@@ -189,21 +169,21 @@ fn readings_are_refused_by_the_first_cause(rt: HostRuntime) -> Result<(), Fail> 
     let short = Graded::new(&bytes[0..254]);
     let right = Graded::new(&bytes[0..255]);
     let long = Graded::new(&bytes);
-    refused(&rt, &long, 1, Refusal::UnknownCode)?;
-    refused(&rt, &right, 4, Refusal::UnknownCode)?;
-    refused(&rt, &none, 2, Refusal::WrongLength)?;
-    refused(&rt, &short, 3, Refusal::WrongLength)?;
-    refused(&rt, &long, 2, Refusal::WrongLength)?;
-    refused(&rt, &right, 2, Refusal::Unsound { place: 9 })
+    refused(&rt, &long, 1, Refusal::UnknownCode);
+    refused(&rt, &right, 4, Refusal::UnknownCode);
+    refused(&rt, &none, 2, Refusal::WrongLength);
+    refused(&rt, &short, 3, Refusal::WrongLength);
+    refused(&rt, &long, 2, Refusal::WrongLength);
+    refused(&rt, &right, 2, Refusal::Unsound { place: 9 });
 }
 
 #[test]
-fn samples_are_refused_by_their_number(rt: HostRuntime) -> Result<(), Fail> {
+fn samples_are_refused_by_their_number(rt: HostRuntime) {
     let bytes = [0x7F; 256];
     let short = Signed::new(&bytes[0..254]);
     let long = Signed::new(&bytes);
-    refused(&rt, &short, 2, Refusal::WrongLength)?;
-    refused(&rt, &long, 3, Refusal::WrongLength)
+    refused(&rt, &short, 2, Refusal::WrongLength);
+    refused(&rt, &long, 3, Refusal::WrongLength);
 }
 
 // Bytes for a word: one value for the places that hold one, and another for the rest.
@@ -218,24 +198,24 @@ fn word_bytes(ones: &[usize], one: u8, zero: u8) -> [u8; PLACES] {
 }
 
 // What the codeword test says of a word, by signed and by graded bytes.
-fn tested(rt: &impl Abort, ones: &[usize], number: u32, yes: bool) -> Result<(), Fail> {
+fn tested(rt: &impl Abort, ones: &[usize], number: u32, yes: bool) {
     let signed = word_bytes(ones, 0x7F, 0x81);
     let graded = word_bytes(ones, 0x80, 0x00);
     assert!(rt; is_codeword(&Signed::new(&signed), number) == Ok(yes));
     assert!(rt; is_codeword(&Graded::new(&graded), number) == Ok(yes));
-    Ok(())
 }
 
 #[test]
-fn codewords_are_told_from_their_neighbours(rt: HostRuntime) -> Result<(), Fail> {
-    tested(&rt, &[], 2, true)?;
-    tested(&rt, &[], 3, true)?;
-    tested(&rt, &light_codeword(), 2, true)?;
-    tested(&rt, &light_codeword(), 3, false).note("its fifth syndrome is not zero")?;
-    tested(&rt, &light_codeword()[0..4], 2, false)?;
-    tested(&rt, &[0, 1, 68, 102, 119, 136], 2, false)?;
-    tested(&rt, &[254], 2, false)?;
-    tested(&rt, &[0], 3, false)
+fn codewords_are_told_from_their_neighbours(rt: HostRuntime) {
+    tested(&rt, &[], 2, true);
+    tested(&rt, &[], 3, true);
+    tested(&rt, &light_codeword(), 2, true);
+    // Its fifth syndrome is not zero.
+    tested(&rt, &light_codeword(), 3, false);
+    tested(&rt, &light_codeword()[0..4], 2, false);
+    tested(&rt, &[0, 1, 68, 102, 119, 136], 2, false);
+    tested(&rt, &[254], 2, false);
+    tested(&rt, &[0], 3, false);
 }
 
 #[test]
