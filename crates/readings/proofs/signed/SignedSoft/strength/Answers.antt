@@ -3,12 +3,12 @@ use Rattle.readings.specs.SignedBytes.{signed_places, signed_place, signed_stren
 use Rattle.readings.proofs.OverBytes.{nothing_past, told_inside}
 use Rattle.readings.proofs.signed.SignedSoft.strength.Goals as goal
 
-pub returns-in-err-byte : goal.returns-in-err-byte
+pub returns-in_err-byte : goal.returns-in_err-byte
 unfolding signed_places
-returns-in-err-byte c = c.from-residual.ensures ∙ sym (nothing_past signed_place signed_strength c.args.self.now.bytes.now c.args.place (sym c.byte-at.ensures ∙ c.in-err-byte.was))
+returns-in_err-byte c = c.from_residual.ensures ∙ sym (nothing_past signed_place signed_strength c.args.self.now.bytes.now c.args.place (sym c.byte_at.ensures ∙ c.in_err-byte.was))
 
 pub returns : goal.returns
 unfolding signed_places
 returns c =
     ap Some c.of.ensures.value
-    ∙ sym (told_inside signed_place signed_strength c.args.self.now.bytes.now c.args.place c.in-ok-byte.byte (sym c.byte-at.ensures ∙ c.in-ok-byte.was))
+    ∙ sym (told_inside signed_place signed_strength c.args.self.now.bytes.now c.args.place c.in_ok-byte.byte (sym c.byte_at.ensures ∙ c.in_ok-byte.was))
