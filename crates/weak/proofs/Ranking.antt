@@ -1,6 +1,6 @@
 -- All places of a burst in turn. Assumes nothing.
 use Rattle.std.proofs.Common.{◌≡◌, ℕ, zero, suc, ◌<◌, true, ◌≢◌, List, [], length, get_or, refl, ap, ◌∙◌, subst, ⊎_elim, arith}
-use Rattle.std.specs.List.{ContainsAt as Has, AllByRecursion as All}
+use Rattle.std.specs.List.{ContainsAt as Has, AllByRecursion}
 use Rattle.std.proofs.ByRecursion.{All-weaker, All-get_or}
 use Rattle.std.proofs.lemmas.Bool.{cases_lt}
 use Rattle.order.specs.Order.{Pairwise, InOrder, insert}
@@ -18,7 +18,7 @@ pub length_ranked : (b : Burst) (m : ℕ) → length (ranked b m) ≡ m
 length_ranked b zero = refl
 length_ranked b (suc m) = length_insert (no_later b) m (ranked b m) ∙ ap suc (length_ranked b m)
 
-ranked_below : (b : Burst) (m : ℕ) → All (λ p. p < m) (ranked b m)
+ranked_below : (b : Burst) (m : ℕ) → AllByRecursion (λ p. p < m) (ranked b m)
 ranked_below b zero = tt
 ranked_below b (suc m) = all_insert (no_later b) (λ p. p < suc m) m (ranked b m) (omega arith) (All-weaker (λ p. p < m) (λ p. p < suc m) (λ p h. omega arith) (ranked b m) (ranked_below b m))
 
