@@ -2,12 +2,12 @@ use Rattle.line_fields.specs.Fields.{fields_left, three_fields}
 use Rattle.line_fields.proofs.Splitting.{three_are}
 use Rattle.line_fields.proofs.three_fields.Goals as goal
 
-pub returns-in-err-rest : goal.returns-in-err-rest
+pub returns-in_err-rest : goal.returns-in_err-rest
 unfolding fields_left three_fields
-returns-in-err-rest c = rw (c.from-residual.ensures, c.in-err-rest.was)
+returns-in_err-rest c = rw (c.from_residual.ensures, c.in_err-rest.was)
 
-pub returns-in-err-second : goal.returns-in-err-second
-returns-in-err-second c = rw c.from-residual-in-err-second.ensures (three_are c.args.rest c.split-field.result.1 c.in-ok-rest.field-0 c.split-field.result.0.now _ c.in-ok-rest.was c.split-field.ensures.fields c.in-err-second.ensures)
+pub returns-in_err-second : goal.returns-in_err-second
+returns-in_err-second c = rw c.from_residual-in_err-second.ensures (three_are c.args.rest c.split_field.result.1 c.in_ok-rest.field-0 c.split_field.result.0.now _ c.in_ok-rest.was c.split_field.ensures.fields c.in_err-second.ensures)
 
 pub returns : goal.returns
-returns c = three_are c.args.rest c.split-field.result.1 c.in-ok-rest.field-0 c.split-field.result.0.now _ c.in-ok-rest.was c.split-field.ensures.fields c.in-ok-second.ensures
+returns c = three_are c.args.rest c.split_field.result.1 c.in_ok-rest.field-0 c.split_field.result.0.now _ c.in_ok-rest.was c.split_field.ensures.fields c.in_ok-second.ensures

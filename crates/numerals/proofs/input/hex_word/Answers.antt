@@ -3,16 +3,16 @@ use Rattle.numerals.specs.Numerals.{hex_word}
 use Rattle.numerals.proofs.Reading.{word_fits}
 use Rattle.numerals.proofs.input.hex_word.Goals as goal
 
-pub overflow-cast-result : goal.overflow-cast-result
-overflow-cast-result c = omega (arith, word_fits c.in-ok-n.n (length c.args.field.now) (omega arith) c.in-ok-n.ensures.bound)
+pub overflow_cast-result : goal.overflow_cast-result
+overflow_cast-result c = omega (arith, word_fits c.in_ok-n.n (length c.args.field.now) (omega arith) c.in_ok-n.ensures.bound)
 
-pub returns-then-is-empty : goal.returns-then-is-empty
+pub returns-then-is_empty : goal.returns-then-is_empty
 unfolding hex_word
-returns-then-is-empty c = search rules
+returns-then-is_empty c = search rules
 
-pub returns-in-err-n : goal.returns-in-err-n
+pub returns-in_err-n : goal.returns-in_err-n
 unfolding hex_word
-returns-in-err-n c = search rules
+returns-in_err-n c = search rules
 
 pub returns : goal.returns
 unfolding hex_word

@@ -5,7 +5,7 @@ use Rattle.numerals.proofs.output.push_bytes_text.Goals as goal
 
 pub loop-b-preserved : goal.loop-b-preserved
 loop-b-preserved c =
-    byte_more (vec_items c.loop-b.out) (vec_items c.extend-from-slice.new.self) c.byte-text-text.result c.args.bytes.now c.loop-b.b-index (omega arith) (search rules) (pushed c.byte-text-text.result refl c.in-ok-extend-from-slice.was c.extend-from-slice.ensures.items)
+    byte_more (vec_items c.loop-b.out) (vec_items c.extend_from_slice.new.self) c.byte_text-text.result c.args.bytes.now c.loop-b.b-index (omega arith) (search rules) (pushed c.byte_text-text.result refl c.in_ok-extend_from_slice.was c.extend_from_slice.ensures.items)
     ∙ c.loop-b.invariant
 
 pub returns : goal.returns

@@ -8,8 +8,8 @@ use Rattle.script.proofs.lines.parse.Goals as goal
 
 pub returns : goal.returns
 returns c =
-    let told = says_call c.args.line.now c.without-return-text.result.now c.split-field.result.0.now (fields_left c.split-field.result.1) c.without-return-text.ensures (sym c.if-is-quiet.ensures) c.split-field.ensures.fields in
-    IfOk-weaker c.call-row.result (λ l. seen l ≡ call_row c.split-field.result.0.now (fields_left c.split-field.result.1)) (λ l. seen l ≡ meaning c.args.line.now) (λ l e. e ∙ sym told) c.call-row.ensures
+    let told = says_call c.args.line.now c.without_return-text.result.now c.split_field.result.0.now (fields_left c.split_field.result.1) c.without_return-text.ensures (sym c.if-is_quiet.ensures) c.split_field.ensures.fields in
+    IfOk-weaker c.call_row.result (λ l. seen l ≡ call_row c.split_field.result.0.now (fields_left c.split_field.result.1)) (λ l. seen l ≡ meaning c.args.line.now) (λ l e. e ∙ sym told) c.call_row.ensures
 
-pub returns-then-is-quiet : goal.returns-then-is-quiet
-returns-then-is-quiet c = sym (says_nothing_lem c.args.line.now c.without-return-text.result.now c.without-return-text.ensures (sym c.if-is-quiet.ensures))
+pub returns-then-is_quiet : goal.returns-then-is_quiet
+returns-then-is_quiet c = sym (says_nothing_lem c.args.line.now c.without_return-text.result.now c.without_return-text.ensures (sym c.if-is_quiet.ensures))

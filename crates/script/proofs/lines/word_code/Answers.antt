@@ -1,14 +1,14 @@
 use Rattle.script.specs.Lines.{word_code}
 use Rattle.script.proofs.lines.word_code.Goals as goal
 
-pub returns-in-err-word : goal.returns-in-err-word
+pub returns-in_err-word : goal.returns-in_err-word
 unfolding word_code
-returns-in-err-word c = rw (c.from-residual.ensures, ← c.in-err-word.ensures)
+returns-in_err-word c = rw (c.from_residual.ensures, ← c.in_err-word.ensures)
 
-pub returns-then-field-is : goal.returns-then-field-is
+pub returns-then-field_is : goal.returns-then-field_is
 unfolding word_code
-returns-then-field-is c = rw (← c.in-ok-word.ensures, ← c.if-field-is.ensures) c.code-number.ensures
+returns-then-field_is c = rw (← c.in_ok-word.ensures, ← c.if-field_is.ensures) c.code_number.ensures
 
-pub returns-else-field-is : goal.returns-else-field-is
+pub returns-else-field_is : goal.returns-else-field_is
 unfolding word_code
-returns-else-field-is c = rw (← c.in-ok-word.ensures, ← c.if-field-is.ensures)
+returns-else-field_is c = rw (← c.in_ok-word.ensures, ← c.if-field_is.ensures)
