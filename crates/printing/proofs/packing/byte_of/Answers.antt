@@ -5,11 +5,11 @@ use Rattle.galois.proofs.Words.{digit_lt, byte_digit}
 use Rattle.printing.proofs.Bytes.{rest_lt, rest_more}
 use Rattle.printing.proofs.packing.byte_of.Goals as goal
 
-pub overflow-mul-value : goal.overflow-mul-value
-overflow-mul-value c = omega (arith, c.loop-k.invariant, rest_lt c.args.bits.now c.loop-k.k 7 (omega arith))
+pub overflow_mul-value : goal.overflow_mul-value
+overflow_mul-value c = omega (arith, c.loop-k.invariant, rest_lt c.args.bits.now c.loop-k.k 7 (omega arith))
 
-pub overflow-add-value : goal.overflow-add-value
-overflow-add-value c =
+pub overflow_add-value : goal.overflow_add-value
+overflow_add-value c =
     let place = get_or c.args.bits.now (c.loop-k.k - 1) false in
     omega (arith, c.loop-k.invariant, rest_lt c.args.bits.now c.loop-k.k 7 (omega arith), c.from.ensures ∙ byte_digit place, digit_lt place)
 

@@ -5,8 +5,8 @@ use Rattle.printing.specs.Packing.{packed_byte, packing}
 use Rattle.printing.proofs.Bytes.{eight_from, packed_places}
 use Rattle.printing.proofs.packing.packed.Goals as goal
 
-pub byte-of-requires : goal.byte-of-requires
-byte-of-requires c =
+pub byte_of-requires : goal.byte_of-requires
+byte_of-requires c =
     let from = 8 * c.loop-j.j in
     omega (arith, length-take (c.min-end.result - from) (drop from c.args.bits.now), c.min-end.ensures)
 
@@ -16,7 +16,7 @@ loop-j-preserved c =
       simp length-set c.loop-j.invariant.0,
       below_more _ _
           (λ k h. let ne : k ≢ c.loop-j.j = omega arith in rw get_or-set_other (c.loop-j.invariant.1 k h))
-          (let lt : c.loop-j.j < length c.loop-j.bytes = omega arith in rw get_or-set_same (c.byte-of.ensures ∙ ap number eight)),
+          (let lt : c.loop-j.j < length c.loop-j.bytes = omega arith in rw get_or-set_same (c.byte_of.ensures ∙ ap number eight)),
     )
 
 pub returns : goal.returns

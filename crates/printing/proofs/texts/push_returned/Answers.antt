@@ -5,5 +5,5 @@ use Rattle.printing.proofs.texts.push_returned.Goals as goal
 pub returns-in-Unsound : goal.returns-in-Unsound
 returns-in-Unsound c = search (rules, append_assoc)
 
-pub returns-in-default : goal.returns-in-default
-returns-in-default c = search (rules, one_number)
+pub returns-in_default : goal.returns-in_default
+returns-in_default c = search (rules, one_number)

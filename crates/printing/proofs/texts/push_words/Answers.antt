@@ -5,7 +5,7 @@ use Rattle.printing.proofs.texts.push_words.Goals as goal
 
 pub loop-w-preserved : goal.loop-w-preserved
 loop-w-preserved c =
-    word_more (vec_items c.loop-w.out) (vec_items c.push.new.self) (vec_items c.push-word-text.new.out) c.args.words.now c.loop-w.w-index (omega arith) (pushed (32 ∷ []) refl c.in-ok-push.was c.push.ensures.items) c.in-ok-push-word-text.ensures
+    word_more (vec_items c.loop-w.out) (vec_items c.push.new.self) (vec_items c.push_word_text.new.out) c.args.words.now c.loop-w.w-index (omega arith) (pushed (32 ∷ []) refl c.in_ok-push.was c.push.ensures.items) c.in_ok-push_word_text.ensures
     ∙ c.loop-w.invariant
 
 pub returns : goal.returns
