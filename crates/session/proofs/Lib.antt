@@ -1,3 +1,2 @@
-pub mod Bytes
-pub mod Wordings
 pub mod Answering
+pub mod Ending

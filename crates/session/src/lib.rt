@@ -1,9 +1,7 @@
 // What `stocktake` does with a script, line by line.
 #![tactic(auto)]
 
-mod packing;
 mod session;
-mod texts;
+mod testing;
 
-pub use packing::packed;
 pub use session::Session;
