@@ -1,2 +1,3 @@
+pub mod Bytes
+pub mod Wordings
 pub mod Answering
-pub mod Ending

@@ -1,7 +1,9 @@
 // What `stocktake` does with a script, line by line.
 #![tactic(auto)]
 
+mod packing;
 mod session;
-mod testing;
+mod texts;
 
+pub use packing::packed;
 pub use session::Session;

@@ -1,6 +1,6 @@
 ghost use Rattle.std.specs.Prelude.{◌≡◌, ◌++◌, OnOk};
 ghost use Rattle.codes.specs.Calls.{New};
-ghost use Rattle.printing.specs.Texts.{summary_text, printed};
+ghost use Rattle.session.specs.Texts.{summary_text, printed};
 ghost use Rattle.session.specs.Steps.{Counted};
 
 use super::Session;

@@ -1,15 +1,11 @@
 ghost use Rattle.std.specs.Prelude.{OnOk};
-ghost use Rattle.codes.specs.Calls.{word_places};
-ghost use Rattle.session.specs.Steps.{Adds, EncodeLine, TakeLine, AnsweredTest, places_as, CodewordLine, Steps};
+ghost use Rattle.session.specs.Steps.{Adds, EncodeLine, TakeLine, Steps};
 
 use super::Session;
-use crate::testing::test_bytes;
+use crate::texts::{push_message, push_not_understood, push_refusal, push_word};
 use bch::MESSAGE_WORDS;
 use codes::{encode, take_message};
-use printing::{push_message, push_not_understood, push_refusal, push_word, push_yes_no};
-use receiving::is_codeword;
-use refusals::Refusal;
-use script::{Kind, Line, parse};
+use script_text::{Line, parse};
 use std::alloc::{AllocError, Global};
 
 impl Session {
@@ -44,45 +40,6 @@ impl Session {
         }
     }
 
-    // Counts a codeword test and prints what it answered.
-    fn tested_row(
-        &mut self,
-        heap: Global,
-        answer: Result<bool, Refusal>,
-        out: &mut Vec<u8>,
-    ) -> Result<(), AllocError>
-        ensures { OnOk result (Adds (AnsweredTest answer self.old self.new) out.old.items out.new.items) }
-    {
-        self.count(answer.is_ok());
-        match answer {
-            Ok(yes) => push_yes_no(yes, out),
-            Err(refusal) => push_refusal(heap, refusal, out),
-        }
-    }
-
-    // codeword KIND CODE BYTES
-    fn codeword_row(
-        &mut self,
-        heap: Global,
-        kind: Kind,
-        code: u32,
-        bytes: &[u8],
-        out: &mut Vec<u8>,
-    ) -> Result<(), AllocError>
-        ensures { OnOk result (Adds (CodewordLine (places_as kind bytes.now) code self.old self.new) out.old.items out.new.items) }
-    {
-        let answer = test_bytes(kind, code, bytes);
-        self.tested_row(heap, answer, out)
-    }
-
-    // codeword word CODE
-    fn word_row(&mut self, heap: Global, code: u32, out: &mut Vec<u8>) -> Result<(), AllocError>
-        ensures { OnOk result (Adds (CodewordLine (word_places self.old.word) code self.old self.new) out.old.items out.new.items) }
-    {
-        let answer = is_codeword(&self.word, code);
-        self.tested_row(heap, answer, out)
-    }
-
     // Does what a line of a script says, and puts the text that it prints after `out`. The line comes without its newline.
     pub fn answer(&mut self, heap: Global, line: &[u8], out: &mut Vec<u8>) -> Result<(), AllocError>
         ensures { OnOk result (Adds (Steps line.now self.old self.new) out.old.items out.new.items) }
@@ -92,10 +49,6 @@ impl Session {
             Line::NotUnderstood => push_not_understood(out),
             Line::Encode { code, words } => self.encode_row(heap, code, &words, out),
             Line::Take => self.take_row(heap, out),
-            Line::Codeword { kind, code, bytes } => {
-                self.codeword_row(heap, kind, code, &bytes, out)
-            }
-            Line::CodewordOfWord { code } => self.word_row(heap, code, out),
         }
     }
 }

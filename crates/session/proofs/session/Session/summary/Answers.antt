@@ -1,5 +1,5 @@
 use Rattle.std.proofs.Common.{vec_items}
-use Rattle.session.proofs.Ending.{all_added, summary_line}
+use Rattle.session.proofs.Wordings.{all_added, summary_line}
 use Rattle.session.proofs.session.Session.summary.Goals as goal
 
 pub returns : goal.returns
