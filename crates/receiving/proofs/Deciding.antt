@@ -2,7 +2,7 @@
 use Rattle.std.proofs.Common.{◌≡◌, ℕ, Bool, List, length, Ok, Err, Option, sym, refl, ap, ◌∙◌, subst, inl, inr, ⊎_elim, arith}
 use Rattle.std.proofs.lemmas.Bool.{cases_eq}
 use Rattle.refusals.specs.declared.refusal.Refusal.{Refusal}
-use Rattle.refusals.specs.declared.refusal.Refusal.TheVariants.{WrongLength, Unsound}
+use Rattle.refusals.specs.declared.refusal.Refusal.TheVariants.{Unsound}
 use Rattle.refusals.specs.Refusals.{NoCause, row}
 use Rattle.bch.specs.declared.code.Code.{Code}
 use Rattle.bch.specs.Codes.{places, code_number, Codeword}
@@ -14,13 +14,6 @@ use Rattle.readings.proofs.Unsound.{lowest_is}
 
 module _ (l : List (Option Bool)) (number : ℕ) where
   module _ (k : Code) (is : code_number k ≡ number) where
-    pub refuse_length : (length l ≡ places → ⊥) → Receives l number (Err WrongLength)
-    refuse_length not = record {
-      fits = inr (inl (refl, not));
-      first = ((λ _ none. none k is), ((λ b. absurd (omega arith)), ((λ b. absurd (omega arith)), tt)));
-      returns = refl;
-    }
-
     pub refuse_unsound : length l ≡ places → (x : Refusal) → Copies l (Err x) → Receives l number (Err x)
     refuse_unsound long x (p, stops, low) = record {
       fits = inr (inr (inl (stops ∙ ap Unsound (sym (lowest_is l p low)), (p, low.unsound))));

@@ -1,11 +1,8 @@
 use Rattle.std.proofs.Common.{refl, arith}
 use Rattle.std.proofs.lemmas.Result.{err_from_is_err_and}
 use Rattle.receiving.specs.Receiving.{received_bits}
-use Rattle.receiving.proofs.Deciding.{refuse_length, refuse_unsound, accept}
+use Rattle.receiving.proofs.Deciding.{refuse_unsound, accept}
 use Rattle.receiving.proofs.received.Received.of.Goals as goal
-
-pub returns-then-len-ne-PLACES : goal.returns-then-len-ne-PLACES
-returns-then-len-ne-PLACES g c = refuse_length _ _ c.in_ok-code.code c.in_ok-code.ensures (omega arith)
 
 pub returns-in_err-bits : goal.returns-in_err-bits
 returns-in_err-bits g c =
