@@ -1,4 +1,5 @@
 -- The order by strength and then by the tie rule has the laws. Assumes nothing.
+-- Lemmas, and yet in specs/: `WeakPlace` cites them as the proofs of its order's laws, and a source cites nothing of proofs/.
 use Rattle.std.specs.Prelude.{◌≡◌, ℕ, Bool, true, false, not, ◌&&◌, ◌||◌, refl}
 use Rattle.std.proofs.Common.{sym, true≢false}
 use Rattle.weak.specs.Turns.{tie, in_turn}

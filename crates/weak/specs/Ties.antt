@@ -1,4 +1,4 @@
--- The laws of the tie rule: all that is used of it. Assumes nothing.
+-- The laws of the tie rule: all that is used of it. Assumes nothing. In specs/ for `InTurns`.
 use Rattle.std.specs.Prelude.{◌≡◌, ℕ, true, false}
 use Rattle.std.proofs.Common.{arith}
 use Rattle.std.proofs.lemmas.Bool.{leb-true, leb-false, le-leb}
