@@ -3,7 +3,9 @@ use Rattle.std.specs.Prelude.{◌≡◌, ℕ, ◌*◌, List, map, take, Some, No
 use Rattle.refusals.specs.declared.refusal.Refusal.{Refusal}
 use Rattle.refusals.specs.Refusals.{Tells}
 use Rattle.receiving.specs.Causes.{reading_causes}
-use Rattle.order.specs.Slots.{slot_count, slots}
+use Rattle.order.specs.Slots.{slot_count}
+use Rattle.order.specs.Kept.{slots}
+use Rattle.order.specs.declared.ordered.Ordered as ordered
 use Rattle.order.specs.declared.kept.Kept.{Kept}
 use Rattle.readings.specs.Burst.{Burst}
 use Rattle.weak.specs.declared.place.WeakPlace.{WeakPlace}
@@ -15,7 +17,7 @@ abbrev pub weak_place : {S : Type 0} → (ℕ → S) → ℕ → WeakPlace S
 weak_place strengths p = record { strength = strengths p; place = p }
 
 -- the slots hold the weakest places of the burst, each with its strength
-abbrev pub KeepsWeakest : {S : Type 0} → Burst → (ℕ → S) → Kept (WeakPlace S) → Type 0
+abbrev pub KeepsWeakest : {S : Type 0} {order : ordered.Ghosts (WeakPlace S)} → Burst → (ℕ → S) → Kept (WeakPlace S) order → Type 0
 KeepsWeakest b strengths kept = (list : List ℕ) × Weakest slot_count b list × (slots kept ≡ map (λ p. Some (weak_place strengths p)) list)
 
 -- the place of what a slot holds; an empty one has none, and 0 stands for it

@@ -1,6 +1,6 @@
 // The places of least strength, kept as the reading is asked place by place.
 ghost use Rattle.std.specs.Prelude.{◌≡◌, ◌*◌, map};
-ghost use Rattle.order.specs.Slots.{slots};
+ghost use Rattle.order.specs.Kept.{slots};
 ghost use Rattle.readings.specs.Burst.{burst};
 ghost use Rattle.bch.specs.Codes.{code_number};
 ghost use Rattle.receiving.specs.Causes.{Whole};

@@ -1,6 +1,6 @@
 use Rattle.std.proofs.Common.{None, sym, ◌∙◌, arith}
 use Rattle.std.proofs.lemmas.List.{ext_get_or, get_or-map}
-use Rattle.order.specs.Slots.{slots}
+use Rattle.order.specs.Kept.{slots}
 use Rattle.weak.specs.Lists.{place_in}
 use Rattle.weak.proofs.keeping.kept_places.Goals as goal
 

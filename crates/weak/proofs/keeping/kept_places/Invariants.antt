@@ -1,5 +1,6 @@
 use Rattle.std.proofs.Common.{◌≡◌, ℕ, ◌<◌, ◌≤◌, length, get_or, None}
-use Rattle.order.specs.Slots.{slot_count, slots}
+use Rattle.order.specs.Slots.{slot_count}
+use Rattle.order.specs.Kept.{slots}
 use Rattle.weak.specs.Lists.{place_in}
 use Rattle.weak.proofs.keeping.kept_places.Given as goal
 
