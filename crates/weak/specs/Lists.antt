@@ -1,5 +1,5 @@
 -- What is kept on the way to the weak list, the list as it is held, and asking for it. Assumes nothing.
-use Rattle.std.specs.Prelude.{◌≡◌, ℕ, ◌*◌, List, map, take, Some, None, Option, Result}
+use Rattle.std.specs.Prelude.{◌≡◌, ℕ, ◌*◌, List, map, Some, None, Option, Result}
 use Rattle.refusals.specs.declared.refusal.Refusal.{Refusal}
 use Rattle.refusals.specs.Refusals.{Tells}
 use Rattle.receiving.specs.Causes.{reading_causes}
@@ -9,6 +9,8 @@ use Rattle.order.specs.declared.ordered.Ordered as ordered
 use Rattle.order.specs.declared.kept.Kept.{Kept}
 use Rattle.readings.specs.Burst.{Burst}
 use Rattle.weak.specs.declared.place.WeakPlace.{WeakPlace}
+use Rattle.weak.specs.declared.list.Places.{Places}
+use Rattle.weak.specs.declared.list.Places.TheVariants.{Four, Six}
 use Rattle.weak.specs.declared.list.WeakList.{WeakList}
 use Rattle.weak.specs.Weakest.{Weakest}
 
@@ -25,9 +27,14 @@ abbrev pub place_in : {S : Type 0} → Option (WeakPlace S) → ℕ
 place_in None = 0
 place_in (Some weak) = weak.place
 
+-- the places that are held, of one code or the other
+abbrev pub held : Places → List ℕ
+held (Four places) = places
+held (Six places) = places
+
 -- the places of a weak list
 unfoldable pub listed : WeakList → List ℕ
-listed list = take list.count list.places
+listed list = held list.places
 
 -- the list is the n weakest places of the burst, and no other list is
 pub record WeakListOf (n : ℕ) (b : Burst) (list : List ℕ) : Type 0 where
