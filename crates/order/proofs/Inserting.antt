@@ -23,14 +23,6 @@ has_next : {E : Type 0} (x y : E) (l : List E) → Has l x → Has (y ∷ l) x
 has_next x y l h = let lt = h.1 in (suc h.0, omega arith, h.2)
 
 module _ {E : Type 0} (at_most : E → E → Bool) where
-  pub insert_later : (x y : E) (l : List E) → at_most y x ≡ true → insert at_most x (y ∷ l) ≡ y ∷ insert at_most x l
-  unfolding insert
-  insert_later x y l e = rw e refl
-
-  pub insert_here : (x y : E) (l : List E) → at_most y x ≡ false → insert at_most x (y ∷ l) ≡ x ∷ y ∷ l
-  unfolding insert
-  insert_here x y l e = rw e refl
-
   pub length_insert : (x : E) (l : List E) → length (insert at_most x l) ≡ suc (length l)
   unfolding insert
   length_insert x [] = refl

@@ -1,3 +1,4 @@
 pub mod Order
 pub mod Slots
+pub mod Kept
 pub mod Steps

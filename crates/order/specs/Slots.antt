@@ -1,6 +1,5 @@
--- The six slots in which elements are kept. Assumes nothing.
-use Rattle.std.specs.Prelude.{ℕ, Bool, true, false, List, [], ◌∷◌, Some, None, Option}
-use Rattle.order.specs.declared.kept.Kept.{Kept}
+-- The six slots in which elements are kept, and their order. Assumes nothing.
+use Rattle.std.specs.Prelude.{ℕ, Bool, true, false, Some, None, Option}
 
 -- the order of slots: an empty one stands behind every element
 abbrev pub slot_at_most : {E : Type 0} → (E → E → Bool) → Option E → Option E → Bool
@@ -12,7 +11,3 @@ slot_at_most at_most None None = true
 -- the number of slots
 abbrev pub slot_count : ℕ
 slot_count = 6
-
--- the slots, first to last
-unfoldable pub slots : {E : Type 0} → Kept E → List (Option E)
-slots kept = kept.first ∷ kept.second ∷ kept.third ∷ kept.fourth ∷ kept.fifth ∷ kept.sixth ∷ []

@@ -23,6 +23,7 @@ pub(crate) fn stays<E: Ordered>(slot: &Option<E>, x: &E) -> bool
 }
 
 // Passes one slot: what stands in it then, and what goes on.
+#[tactic(auto, unfolding(crate::specs::Order::insert))]
 pub(crate) fn pass<E: Ordered + Copy>(
     slot: Option<E>,
     carried: Carried<E>,

@@ -1,3 +1,2 @@
-pub mod OverBytes
 pub mod Bursts
 pub mod Unsound

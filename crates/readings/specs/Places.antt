@@ -1,14 +1,10 @@
 -- Places, each unsound or a bit. Assumes nothing.
-use Rattle.std.specs.Prelude.{◌≡◌, ℕ, suc, ◌<◌, Bool, false, cond, List, [], ◌∷◌, map, length, Some, None, Option, nat_lt, slice_index, slice_index_or}
+use Rattle.std.specs.Prelude.{◌≡◌, ℕ, suc, ◌<◌, Bool, false, List, [], ◌∷◌, map, length, Some, None, Option, slice_index_or}
 
 -- what is told of a place besides its bit: nothing where it has none
 abbrev pub where_sound : {S : Type 0} → Option Bool → S → Option S
 where_sound None s = None
 where_sound (Some b) s = Some s
-
--- the byte of a place, if there is such a place
-unfoldable pub byte_at : List ℕ → ℕ → Option ℕ
-byte_at bytes place = cond (nat_lt place (length bytes)) (Some (slice_index bytes place)) None
 
 -- the bit of a sound place; an unsound one has none, and counts as zero
 abbrev pub bit_of : Option Bool → Bool

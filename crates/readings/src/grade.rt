@@ -1,5 +1,6 @@
 // A class and a level as a strength.
 ghost use Rattle.std.specs.Prelude.{◌≡◌};
+ghost use Rattle.std.specs.Option.{ok_or};
 ghost use Rattle.readings.specs.GradedBytes.{class_of, graded_class, graded_place, graded_strength};
 ghost use Rattle.readings.specs.Places.{where_sound};
 ghost use Rattle.readings.specs.Strengths.{class_number, grade_at_most};
@@ -7,54 +8,58 @@ ghost use Rattle.std.proofs.Common.{rules};
 
 use crate::strength::Strength;
 use order::Ordered;
+use std::cmp::Ordering;
 
 // How well a place was received, the weakest first.
-#[derive(Clone, Copy, PartialEq, Eq)]
+#[derive(Clone, Copy, Debug, PartialEq, Eq, PartialOrd, Ord)]
 pub enum Class {
-    Lost,
-    Faded,
-    Clear,
+    Lost = 0,
+    Faded = 1,
+    Clear = 2,
+}
+
+// A number that no class has.
+#[derive(Clone, Copy, Debug, PartialEq, Eq)]
+pub struct UnknownClass(pub u8);
+
+impl TryFrom<u8> for Class {
+    type Error = UnknownClass;
+
+    ghost try_from_gives = { λ number r. r ≡ ok_or (class_of number) (record { 0 = number }) };
+
+    fn try_from(number: u8) -> Result<Class, UnknownClass> {
+        match number {
+            0 => Ok(Class::Lost),
+            1 => Ok(Class::Faded),
+            2 => Ok(Class::Clear),
+            _ => Err(UnknownClass(number)),
+        }
+    }
+}
+
+impl From<Class> for u8 {
+    ghost from_gives = { λ class number. number ≡ class_number class };
+
+    fn from(class: Class) -> u8 {
+        class as u8
+    }
 }
 
 impl Class {
-    // The class with this number, if there is one.
-    pub fn of(number: u8) -> Option<Class>
-        ensures { result ≡ class_of number }
-    {
-        match number {
-            0 => Some(Class::Lost),
-            1 => Some(Class::Faded),
-            2 => Some(Class::Clear),
-            _ => None,
-        }
-    }
-
     // The class of a graded byte.
     pub fn of_byte(byte: u8) -> Option<Class>
         ensures { result ≡ graded_class byte }
     {
-        Class::of((byte >> 5) % 4)
-    }
-
-    pub fn number(self) -> u8
-        ensures { result ≡ class_number self }
-    {
-        match self {
-            Class::Lost => 0,
-            Class::Faded => 1,
-            Class::Clear => 2,
-        }
+        Class::try_from((byte >> 5) % 4).ok()
     }
 }
 
-#[derive(Clone, Copy)]
+// Equal grades have one class and one level; strengths are equal by their order, where all lost ones are.
+#[derive(Clone, Copy, Debug, PartialEq, Eq)]
 pub struct Grade {
     pub class: Class,
     pub level: u8,
 }
-
-// The number of the class of lost places, which are all equal in strength.
-const LOST: u8 = 0;
 
 impl Grade {
     // The grade of a byte, if it has a class.
@@ -76,10 +81,13 @@ impl Ordered for Grade {
 
     ghost transitive = { Prim.search rules };
 
+    // Lost places are all equal in strength.
     fn is_at_most(&self, other: &Grade) -> bool {
-        let mine = self.class.number();
-        let its = other.class.number();
-        mine < its || (mine == its && (mine == LOST || self.level <= other.level))
+        match self.class.cmp(&other.class) {
+            Ordering::Less => true,
+            Ordering::Equal => self.class == Class::Lost || self.level <= other.level,
+            Ordering::Greater => false,
+        }
     }
 }
 

@@ -1,18 +1,28 @@
 // Graded bytes as a soft reading.
-ghost use Rattle.std.specs.Prelude.{◌≡◌, slice_index};
-ghost use Rattle.readings.specs.GradedBytes.{graded_bit, graded_places, graded_strength};
+ghost use Rattle.std.specs.Prelude.{◌≡◌, ℕ, slice_index};
+ghost use Rattle.readings.specs.GradedBytes.{graded_bit, graded_place, graded_places, graded_strength};
+ghost use Rattle.readings.specs.Strengths.{grade_at_most};
 
-use crate::bytes::byte_at;
+use crate::bytes::Bytes;
 use crate::grade::{Class, Grade};
 use crate::hard::Hard;
+use crate::sample::Sample;
 use crate::soft::Soft;
+use order::Ordered;
 
-mod methods;
+// Bytes with the bit, a class and a level of one place each.
+pub type Graded<'a> = Bytes<'a, Grade>;
 
-// Stands over the caller's bytes, one a place: the bit, a class and a level.
-#[derive(Clone, Copy)]
-pub struct Graded<'a> {
-    bytes: &'a [u8],
+impl<'a> Graded<'a> {
+    // The reading over these bytes: what its places are, how strong they are, and how strengths compare.
+    #[tactic(auto, unfolding(crate::specs::GradedBytes::graded_places))]
+    pub fn new(bytes: &'a [u8]) -> Graded<'a>
+        ensures places { ⟦<Graded<'a> as Hard>⟧.places result ≡ graded_places bytes.now }
+        ensures strengths { (place : ℕ) → ⟦<Graded<'a> as Soft>⟧.strengths result place ≡ graded_strength (slice_index bytes.now place) }
+        ensures order { ⟦<Grade as Ordered>⟧.at_most ≡ grade_at_most }
+    {
+        Bytes::over(bytes)
+    }
 }
 
 // The top bit of a byte.
@@ -22,29 +32,16 @@ fn top_bit(byte: u8) -> bool
     byte >> 7 == 1
 }
 
-impl<'a> Hard for Graded<'a> {
-    ghost places = { λ s. graded_places s.bytes.now };
+impl Sample for Grade {
+    ghost place_of = { graded_place };
 
-    fn len(&self) -> usize {
-        self.bytes.len()
+    ghost strength_of = { graded_strength };
+
+    fn bit(byte: u8) -> Option<bool> {
+        Class::of_byte(byte).map(|_| top_bit(byte))
     }
 
-    fn bit(&self, place: usize) -> Option<bool> {
-        let byte = byte_at(self.bytes, place)?;
-        match Class::of_byte(byte) {
-            Some(_) => Some(top_bit(byte)),
-            None => None,
-        }
-    }
-}
-
-impl<'a> Soft for Graded<'a> {
-    type Kind = Grade;
-
-    ghost strengths = { λ s place. graded_strength (slice_index s.bytes.now place) };
-
-    fn strength(&self, place: usize) -> Option<Grade> {
-        let byte = byte_at(self.bytes, place)?;
+    fn strength(byte: u8) -> Option<Grade> {
         Grade::of(byte)
     }
 }

@@ -6,14 +6,17 @@ mod grade;
 mod graded;
 mod hard;
 mod magnitude;
+mod sample;
 mod signed;
 mod soft;
 mod strength;
 
-pub use grade::{Class, Grade};
+pub use bytes::Bytes;
+pub use grade::{Class, Grade, UnknownClass};
 pub use graded::Graded;
 pub use hard::Hard;
 pub use magnitude::Magnitude;
+pub use sample::Sample;
 pub use signed::Signed;
 pub use soft::Soft;
 pub use strength::Strength;

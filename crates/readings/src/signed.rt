@@ -1,18 +1,28 @@
 // Signed bytes as a soft reading.
-ghost use Rattle.std.specs.Prelude.{◌≡◌, not, slice_index};
-ghost use Rattle.readings.specs.SignedBytes.{negative, signed_places, signed_strength};
+ghost use Rattle.std.specs.Prelude.{◌≡◌, ℕ, not, slice_index};
+ghost use Rattle.readings.specs.SignedBytes.{negative, signed_place, signed_places, signed_strength};
+ghost use Rattle.readings.specs.Strengths.{magnitude_at_most};
 
-use crate::bytes::byte_at;
+use crate::bytes::Bytes;
 use crate::hard::Hard;
 use crate::magnitude::Magnitude;
+use crate::sample::Sample;
 use crate::soft::Soft;
+use order::Ordered;
 
-mod methods;
+// Bytes with one sample a place.
+pub type Signed<'a> = Bytes<'a, Magnitude>;
 
-// Stands over the caller's bytes, one sample a place.
-#[derive(Clone, Copy)]
-pub struct Signed<'a> {
-    bytes: &'a [u8],
+impl<'a> Signed<'a> {
+    // The reading over these bytes: what its places are, how strong they are, and how strengths compare.
+    #[tactic(auto, unfolding(crate::specs::SignedBytes::signed_places))]
+    pub fn new(bytes: &'a [u8]) -> Signed<'a>
+        ensures places { ⟦<Signed<'a> as Hard>⟧.places result ≡ signed_places bytes.now }
+        ensures strengths { (place : ℕ) → ⟦<Signed<'a> as Soft>⟧.strengths result place ≡ signed_strength (slice_index bytes.now place) }
+        ensures order { ⟦<Magnitude as Ordered>⟧.at_most ≡ magnitude_at_most }
+    {
+        Bytes::over(bytes)
+    }
 }
 
 // Whether a byte's sample is bit one.
@@ -22,26 +32,16 @@ fn is_one(byte: u8) -> bool
     byte.cast_signed() >= 0
 }
 
-impl<'a> Hard for Signed<'a> {
-    ghost places = { λ s. signed_places s.bytes.now };
+impl Sample for Magnitude {
+    ghost place_of = { signed_place };
 
-    fn len(&self) -> usize {
-        self.bytes.len()
-    }
+    ghost strength_of = { signed_strength };
 
-    fn bit(&self, place: usize) -> Option<bool> {
-        let byte = byte_at(self.bytes, place)?;
+    fn bit(byte: u8) -> Option<bool> {
         Some(is_one(byte))
     }
-}
 
-impl<'a> Soft for Signed<'a> {
-    type Kind = Magnitude;
-
-    ghost strengths = { λ s place. signed_strength (slice_index s.bytes.now place) };
-
-    fn strength(&self, place: usize) -> Option<Magnitude> {
-        let byte = byte_at(self.bytes, place)?;
+    fn strength(byte: u8) -> Option<Magnitude> {
         Some(Magnitude::of(byte))
     }
 }

@@ -5,10 +5,7 @@ use Rattle.order.specs.Slots.{slot_at_most, slot_count}
 use Rattle.order.proofs.Inserting.{map_insert}
 use Rattle.order.proofs.Padding.{padded, padded_insert}
 use Rattle.order.specs.declared.ordered.Ordered as ordered
-use Rattle.readings.specs.declared.hard.Hard as hard
-use Rattle.readings.specs.declared.soft.Soft as soft
-use Rattle.readings.specs.declared.strength.Strength as strength
-use Rattle.readings.specs.Burst.{burst}
+use Rattle.readings.specs.Burst.{Means, burst}
 use Rattle.readings.specs.Places.{where_sound}
 use Rattle.bch.specs.declared.code.Code.{Code}
 use Rattle.bch.specs.declared.code.Code.TheVariants.{Two, Three}
@@ -27,14 +24,14 @@ pub told_value : {S : Type 0} (o : Option Bool) (r : Option S) (s t : S) → (o 
 told_value o r s t h e f = ap (λ v. unwrap_or v s) (sym f ∙ told o r s h e)
 
 -- places compare in the burst as they do with their strengths, so the slots take a place as the ranking does
-pub place_more : {R S : Type 0} (h : hard.Ghosts R) (s : soft.Ghosts R S) (k : strength.Ghosts S) (o : ordered.Ghosts S) (reading : R) (i : ℕ) (old new : List (Option (WeakPlace S)))
-    → old ≡ padded slot_count (map (weak_place (s.strengths reading)) (ranked (burst h s k o reading) i))
-    → new ≡ take slot_count (insert (slot_at_most (weak_at_most o.at_most)) (Some (weak_place (s.strengths reading) i)) old)
-    → new ≡ padded slot_count (map (weak_place (s.strengths reading)) (ranked (burst h s k o reading) (i + 1)))
-place_more h s k o reading i old new e f =
-    let b = burst h s k o reading in
+pub place_more : {R S : Type 0} (m : Means R S) (o : ordered.Ghosts S) (reading : R) (i : ℕ) (old new : List (Option (WeakPlace S)))
+    → old ≡ padded slot_count (map (weak_place (m.strengths reading)) (ranked (burst m o reading) i))
+    → new ≡ take slot_count (insert (slot_at_most (weak_at_most o.at_most)) (Some (weak_place (m.strengths reading) i)) old)
+    → new ≡ padded slot_count (map (weak_place (m.strengths reading)) (ranked (burst m o reading) (i + 1)))
+place_more m o reading i old new e f =
+    let b = burst m o reading in
     let before = weak_at_most o.at_most in
-    let element = weak_place (s.strengths reading) in
+    let element = weak_place (m.strengths reading) in
     let next : suc i ≡ i + 1 = omega arith in
     f ∙ ap (λ l. take slot_count (insert (slot_at_most before) (Some (element i)) l)) e
     ∙ padded_insert before slot_count (element i) (map element (ranked b i))

@@ -1,3 +1,4 @@
 pub mod Ranking
 pub mod Only
 pub mod Asking
+pub mod FromFn

@@ -1,12 +1,16 @@
 -- What is kept on the way to the weak list, the list as it is held, and asking for it. Assumes nothing.
-use Rattle.std.specs.Prelude.{◌≡◌, ℕ, ◌*◌, List, map, take, Some, None, Option, Result}
+use Rattle.std.specs.Prelude.{◌≡◌, ℕ, ◌*◌, List, map, Some, None, Option, Result}
 use Rattle.refusals.specs.declared.refusal.Refusal.{Refusal}
 use Rattle.refusals.specs.Refusals.{Tells}
 use Rattle.receiving.specs.Causes.{reading_causes}
-use Rattle.order.specs.Slots.{slot_count, slots}
+use Rattle.order.specs.Slots.{slot_count}
+use Rattle.order.specs.Kept.{slots}
+use Rattle.order.specs.declared.ordered.Ordered as ordered
 use Rattle.order.specs.declared.kept.Kept.{Kept}
 use Rattle.readings.specs.Burst.{Burst}
 use Rattle.weak.specs.declared.place.WeakPlace.{WeakPlace}
+use Rattle.weak.specs.declared.list.Places.{Places}
+use Rattle.weak.specs.declared.list.Places.TheVariants.{Four, Six}
 use Rattle.weak.specs.declared.list.WeakList.{WeakList}
 use Rattle.weak.specs.Weakest.{Weakest}
 
@@ -15,7 +19,7 @@ abbrev pub weak_place : {S : Type 0} → (ℕ → S) → ℕ → WeakPlace S
 weak_place strengths p = record { strength = strengths p; place = p }
 
 -- the slots hold the weakest places of the burst, each with its strength
-abbrev pub KeepsWeakest : {S : Type 0} → Burst → (ℕ → S) → Kept (WeakPlace S) → Type 0
+abbrev pub KeepsWeakest : {S : Type 0} {order : ordered.Ghosts (WeakPlace S)} → Burst → (ℕ → S) → Kept (WeakPlace S) order → Type 0
 KeepsWeakest b strengths kept = (list : List ℕ) × Weakest slot_count b list × (slots kept ≡ map (λ p. Some (weak_place strengths p)) list)
 
 -- the place of what a slot holds; an empty one has none, and 0 stands for it
@@ -23,9 +27,14 @@ abbrev pub place_in : {S : Type 0} → Option (WeakPlace S) → ℕ
 place_in None = 0
 place_in (Some weak) = weak.place
 
+-- the places that are held, of one code or the other
+abbrev pub held : Places → List ℕ
+held (Four places) = places
+held (Six places) = places
+
 -- the places of a weak list
 unfoldable pub listed : WeakList → List ℕ
-listed list = take list.count list.places
+listed list = held list.places
 
 -- the list is the n weakest places of the burst, and no other list is
 pub record WeakListOf (n : ℕ) (b : Burst) (list : List ℕ) : Type 0 where

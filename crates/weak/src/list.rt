@@ -1,15 +1,14 @@
 // The places of a weak list; which they are, `weak_list` says.
-ghost use Rattle.std.specs.Prelude.{◌≡◌, ◌≤◌, length};
-ghost use Rattle.order.specs.Slots.{slot_count};
-
-use order::KEPT;
-
 mod methods;
 
-#[derive(Clone, Copy)]
+#[derive(Clone, Copy, Debug, PartialEq, Eq)]
 pub struct WeakList {
-    places: [usize; KEPT],
-    count: usize,
-    ghost long: { length places ≡ slot_count },
-    ghost within: { count ≤ slot_count },
+    places: Places,
+}
+
+// 2t places for each of the two codes.
+#[derive(Clone, Copy, Debug, PartialEq, Eq)]
+enum Places {
+    Four([usize; 4]),
+    Six([usize; 6]),
 }

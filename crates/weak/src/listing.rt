@@ -10,8 +10,8 @@ use refusals::Refusal;
 
 // The weak list of a reading under the code of that number.
 pub fn weak_list<R: Soft>(reading: &R, number: u32) -> Result<WeakList, Refusal>
-    ensures call { Lists (burst R.Hard R.Soft.own R.Kind.Strength.own R.Kind.Ordered reading.now) number result }
-    ensures lawful { Lawful (burst R.Hard R.Soft.own R.Kind.Strength.own R.Kind.Ordered reading.now) }
+    ensures call { Lists (burst R.Soft R.Kind.Ordered reading.now) number result }
+    ensures lawful { Lawful (burst R.Soft R.Kind.Ordered reading.now) }
 {
     // Received for its refusals and its code.
     let received = Received::of(reading, number)?;

@@ -13,6 +13,7 @@ pub struct WeakPlace<S> {
 }
 
 // Decides a tie between two places of equal strength.
+#[tactic(auto, unfolding(crate::specs::Turns::tie))]
 fn wins_tie(place: usize, other: usize) -> bool
     ensures { result ≡ tie place other }
 {

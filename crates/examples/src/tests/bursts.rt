@@ -3,25 +3,19 @@ use crate::{equal_strengths, graded_bytes, least_sample, light_codeword};
 use bch::PLACES;
 use codes::{Word, encode};
 use order::Ordered;
-use readings::{Class, Grade, Graded, Hard, Signed, Soft};
+use readings::{Class, Grade, Graded, Hard, Magnitude, Signed, Soft};
 use receiving::is_codeword;
 use refusals::Refusal;
 use std::process::Abort;
+use std::test::Fail;
 use weak::weak_list;
 
 // A signed byte, as bit and strength.
 fn signed_place(rt: &impl Abort, byte: u8, bit: bool, strength: u8) {
     let bytes = [byte];
     let reading = Signed::new(&bytes);
-    assert!(rt; reading.bit(0) == Some(bit));
-    match reading.strength(0) {
-        Some(magnitude) => {
-            assert_eq!(rt; magnitude.value, strength);
-        },
-        None => {
-            assert!(rt; false, "a sound place has a strength");
-        },
-    }
+    assert_eq!(rt; reading.bit(0), Some(bit));
+    assert_eq!(rt; reading.strength(0), Some(Magnitude { value: strength }));
 }
 
 #[test]
@@ -39,39 +33,45 @@ fn beyond_the_last_place_nothing_is_told(rt: HostRuntime) {
     let signed = Signed::new(&bytes);
     let graded = Graded::new(&bytes);
     assert_eq!(rt; signed.len(), 3);
-    assert!(rt; signed.bit(3) == None);
-    assert!(rt; signed.strength(3).is_none());
+    assert_eq!(rt; signed.bit(3), None);
+    assert_eq!(rt; signed.strength(3), None);
     assert_eq!(rt; graded.len(), 3);
-    assert!(rt; graded.bit(3) == None);
-    assert!(rt; graded.strength(usize::MAX).is_none());
-    assert!(rt; Word::new().bit(254) == Some(false));
-    assert!(rt; Word::new().bit(255) == None);
-}
-
-// The grade at a place.
-fn graded_strength(rt: &impl Abort, reading: &Graded, place: usize, class: Class, level: u8) {
-    match reading.strength(place) {
-        Some(grade) => {
-            assert!(rt; grade.class == class && grade.level == level);
-        },
-        None => {
-            assert!(rt; false, "a sound place has a strength");
-        },
-    }
+    assert_eq!(rt; graded.bit(3), None);
+    assert_eq!(rt; graded.strength(usize::MAX), None);
+    assert_eq!(rt; Word::new().bit(254), Some(false));
+    assert_eq!(rt; Word::new().bit(255), None);
 }
 
 #[test]
 fn graded_bytes_are_bits_with_grades(rt: HostRuntime) {
     let bytes = graded_bytes();
     let reading = Graded::new(&bytes);
-    assert!(rt; reading.bit(0) == Some(true));
-    graded_strength(&rt, &reading, 0, Class::Clear, 5);
-    assert!(rt; reading.bit(1) == None, "unsound");
-    assert!(rt; reading.strength(1).is_none(), "unsound");
-    assert!(rt; reading.bit(2) == Some(false));
-    graded_strength(&rt, &reading, 2, Class::Lost, 0);
-    assert!(rt; reading.bit(3) == Some(false));
-    graded_strength(&rt, &reading, 3, Class::Lost, 31);
+    assert_eq!(rt; reading.bit(0), Some(true));
+    assert_eq!(rt;
+        reading.strength(0),
+        Some(Grade {
+            class: Class::Clear,
+            level: 5
+        })
+    );
+    assert_eq!(rt; reading.bit(1), None, "unsound");
+    assert_eq!(rt; reading.strength(1), None, "unsound");
+    assert_eq!(rt; reading.bit(2), Some(false));
+    assert_eq!(rt;
+        reading.strength(2),
+        Some(Grade {
+            class: Class::Lost,
+            level: 0
+        })
+    );
+    assert_eq!(rt; reading.bit(3), Some(false));
+    assert_eq!(rt;
+        reading.strength(3),
+        Some(Grade {
+            class: Class::Lost,
+            level: 31
+        })
+    );
 }
 
 // Whether the grade of the first byte is at most that of the second.
@@ -102,62 +102,47 @@ fn grades_compare_by_class_and_then_by_level(rt: HostRuntime) {
     );
 }
 
-// The weak list of a reading under a code.
-fn lists<R: Soft>(rt: &impl Abort, reading: &R, number: u32, places: &[usize]) {
-    match weak_list(reading, number) {
-        Ok(list) => {
-            assert!(rt; list.places() == places);
-        },
-        Err(_) => {
-            assert!(rt; false, "a sound reading has a weak list");
-        },
-    }
-}
-
 // The weak lists of a reading: under code 3, and the first four under code 2.
-fn listed<R: Soft>(rt: &impl Abort, reading: &R, places: [usize; 6]) {
-    lists(rt, reading, 2, &places[0..4]);
-    lists(rt, reading, 3, &places);
+fn listed<R: Soft>(rt: &impl Abort, reading: &R, places: [usize; 6]) -> Result<(), Refusal> {
+    assert_eq!(rt; weak_list(reading, 2)?.places(), &places[..4]);
+    assert_eq!(rt; weak_list(reading, 3)?.places(), places.as_slice());
+    Ok(())
 }
 
 #[test]
-fn equal_strengths_list_the_lowest_places(rt: HostRuntime) {
+fn equal_strengths_list_the_lowest_places(rt: HostRuntime) -> Result<(), Fail> {
     let bytes = [0x5F; PLACES];
-    listed(&rt, &Signed::new(&bytes), equal_strengths());
-    listed(&rt, &Graded::new(&bytes), equal_strengths());
+    listed(&rt, &Signed::new(&bytes), equal_strengths())?;
+    listed(&rt, &Graded::new(&bytes), equal_strengths())?;
+    Ok(())
 }
 
 #[test]
-fn the_weakest_samples_come_first(rt: HostRuntime) {
+fn the_weakest_samples_come_first(rt: HostRuntime) -> Result<(), Fail> {
     let mut bytes = [0x81; PLACES];
     bytes[254] = 0x00;
     bytes[10] = 0x01;
     bytes[3] = 0xFF;
     bytes[200] = 0x02;
-    listed(&rt, &Signed::new(&bytes), [254, 3, 10, 200, 0, 1]);
+    listed(&rt, &Signed::new(&bytes), [254, 3, 10, 200, 0, 1])?;
+    Ok(())
 }
 
 #[test]
-fn the_weakest_grades_come_first(rt: HostRuntime) {
+fn the_weakest_grades_come_first(rt: HostRuntime) -> Result<(), Fail> {
     let mut bytes = [0xDF; PLACES];
     bytes[7] = 0x1F;
     bytes[253] = 0x80;
     bytes[5] = 0x20;
     bytes[6] = 0x3F;
-    listed(&rt, &Graded::new(&bytes), [7, 253, 5, 6, 0, 1]);
+    listed(&rt, &Graded::new(&bytes), [7, 253, 5, 6, 0, 1])?;
+    Ok(())
 }
 
 // A reading that both calls refuse so.
 fn refused<R: Soft>(rt: &impl Abort, reading: &R, number: u32, refusal: Refusal) {
-    assert!(rt; is_codeword(reading, number) == Err(refusal));
-    match weak_list(reading, number) {
-        Ok(_) => {
-            assert!(rt; false, "the weak list is refused too");
-        },
-        Err(same) => {
-            assert!(rt; same == refusal);
-        },
-    }
+    assert_eq!(rt; is_codeword(reading, number), Err(refusal));
+    assert_eq!(rt; weak_list(reading, number), Err(refusal));
 }
 
 #[test]
@@ -190,8 +175,8 @@ fn samples_are_refused_by_their_number(rt: HostRuntime) {
 fn word_bytes(ones: &[usize], one: u8, zero: u8) -> [u8; PLACES] {
     let mut bytes = [zero; PLACES];
     for place in ones {
-        if *place < PLACES {
-            bytes[*place] = one;
+        if let Some(byte) = bytes.get_mut(*place) {
+            *byte = one;
         }
     }
     bytes
@@ -201,8 +186,8 @@ fn word_bytes(ones: &[usize], one: u8, zero: u8) -> [u8; PLACES] {
 fn tested(rt: &impl Abort, ones: &[usize], number: u32, yes: bool) {
     let signed = word_bytes(ones, 0x7F, 0x81);
     let graded = word_bytes(ones, 0x80, 0x00);
-    assert!(rt; is_codeword(&Signed::new(&signed), number) == Ok(yes));
-    assert!(rt; is_codeword(&Graded::new(&graded), number) == Ok(yes));
+    assert_eq!(rt; is_codeword(&Signed::new(&signed), number), Ok(yes));
+    assert_eq!(rt; is_codeword(&Graded::new(&graded), number), Ok(yes));
 }
 
 #[test]
@@ -222,14 +207,15 @@ fn codewords_are_told_from_their_neighbours(rt: HostRuntime) {
 fn a_corrected_word_is_a_codeword(rt: HostRuntime) {
     let mut word = Word::new();
     let message = [0x40000001; 7];
-    assert!(rt; encode(&message, 3, &mut word).is_ok());
-    assert!(rt; is_codeword(&word, 3) == Ok(true));
-    assert!(rt;
-        is_codeword(&word, 2) == Ok(true),
+    assert_eq!(rt; encode(&message, 3, &mut word), Ok(()));
+    assert_eq!(rt; is_codeword(&word, 3), Ok(true));
+    assert_eq!(rt;
+        is_codeword(&word, 2),
+        Ok(true),
         "codewords of code 3 are codewords of code 2"
     );
-    assert!(rt; is_codeword(&word, 0) == Err(Refusal::UnknownCode));
-    assert!(rt; encode(&message, 2, &mut word).is_ok());
-    assert!(rt; is_codeword(&word, 2) == Ok(true));
-    assert!(rt; is_codeword(&word, 3) == Ok(false));
+    assert_eq!(rt; is_codeword(&word, 0), Err(Refusal::UnknownCode));
+    assert_eq!(rt; encode(&message, 2, &mut word), Ok(()));
+    assert_eq!(rt; is_codeword(&word, 2), Ok(true));
+    assert_eq!(rt; is_codeword(&word, 3), Ok(false));
 }

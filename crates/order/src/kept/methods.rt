@@ -1,6 +1,7 @@
 ghost use Rattle.std.specs.Prelude.{◌≡◌, take, replicate, Some, None, slice_index_or};
 ghost use Rattle.order.specs.Order.{InOrder, insert};
-ghost use Rattle.order.specs.Slots.{slot_at_most, slot_count, slots};
+ghost use Rattle.order.specs.Kept.{slots};
+ghost use Rattle.order.specs.Slots.{slot_at_most, slot_count};
 
 use super::Kept;
 use crate::carrying::{Carried, pass, stays};
@@ -8,6 +9,7 @@ use crate::ordered::Ordered;
 
 impl<E: Ordered + Copy> Kept<E> {
     // No element yet.
+    #[tactic(auto, unfolding(crate::specs::Kept::slots))]
     pub fn new() -> Kept<E>
         ensures { slots result ≡ replicate slot_count None }
     {
@@ -22,6 +24,7 @@ impl<E: Ordered + Copy> Kept<E> {
     }
 
     // The element in a slot.
+    #[tactic(auto, unfolding(crate::specs::Kept::slots))]
     pub fn at(&self, slot: usize) -> Option<E>
         ensures { result ≡ slice_index_or (slots self.now) slot None }
     {
@@ -38,7 +41,6 @@ impl<E: Ordered + Copy> Kept<E> {
 
     // Inserts an element in order; the seventh is let go.
     pub fn offer(&mut self, x: E)
-        requires { InOrder (slot_at_most E.Ordered.at_most) (slots self.old) }
         ensures kept { slots self.new ≡ take slot_count (insert (slot_at_most E.Ordered.at_most) (Some x) (slots self.old)) }
         ensures order { InOrder (slot_at_most E.Ordered.at_most) (slots self.new) }
     {

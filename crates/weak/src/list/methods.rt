@@ -1,23 +1,35 @@
-ghost use Rattle.std.specs.Prelude.{◌≡◌, ◌≤◌, take};
-ghost use Rattle.order.specs.Slots.{slot_count};
+ghost use Rattle.std.specs.Prelude.{◌≡◌, ◌*◌, take};
+ghost use Rattle.bch.specs.Codes.{code_number};
 ghost use Rattle.weak.specs.Lists.{listed};
 
-use super::WeakList;
+use super::{Places, WeakList};
+use bch::Code;
 use order::KEPT;
 
 impl WeakList {
-    // The first `count` of the places.
-    pub(crate) fn new(places: [usize; KEPT], count: usize) -> WeakList
-        requires { count ≤ slot_count }
-        ensures { listed result ≡ take count places }
+    // The first 2t of the places.
+    #[tactic(auto, unfolding(crate::specs::Lists::listed))]
+    pub(crate) fn new(code: Code, places: [usize; KEPT]) -> WeakList
+        ensures { listed result ≡ take (2 * code_number code) places }
     {
-        WeakList { places, count }
+        let places = match code {
+            Code::Two => {
+                let [first, second, third, fourth, _, _] = places;
+                Places::Four([first, second, third, fourth])
+            }
+            Code::Three => Places::Six(places),
+        };
+        WeakList { places }
     }
 
     // The places, weakest first.
+    #[tactic(auto, unfolding(crate::specs::Lists::listed))]
     pub fn places(&self) -> &[usize]
         ensures { result.now ≡ listed self.now }
     {
-        &self.places[..self.count]
+        match &self.places {
+            Places::Four(places) => places,
+            Places::Six(places) => places,
+        }
     }
 }

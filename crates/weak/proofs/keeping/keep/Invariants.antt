@@ -1,15 +1,13 @@
 use Rattle.std.proofs.Common.{◌≡◌, map}
-use Rattle.order.specs.Order.{InOrder}
-use Rattle.order.specs.Slots.{slot_at_most, slot_count, slots}
+use Rattle.order.specs.Slots.{slot_count}
+use Rattle.order.specs.Kept.{slots}
 use Rattle.order.proofs.Padding.{padded}
 use Rattle.readings.specs.Burst.{burst}
-use Rattle.weak.specs.Turns.{weak_at_most}
+use Rattle.readings.proofs.Bursts.{means}
 use Rattle.weak.specs.Lists.{weak_place}
 use Rattle.weak.proofs.Ranking.{ranked}
 use Rattle.weak.proofs.keeping.keep.Given as goal
 
 -- the slots hold the first of the places asked so far, in turn
 abbrev pub invariant-loop-place : goal.invariant-loop-place
-invariant-loop-place g l =
-    (slots l.least ≡ padded slot_count (map (weak_place (g.R.Soft.strengths l.reading)) (ranked (burst g.R.Hard g.R.Soft g.R.Kind.Strength g.R.Kind.Ordered l.reading) l.place)))
-    × InOrder (slot_at_most (weak_at_most g.R.Kind.Ordered.at_most)) (slots l.least)
+invariant-loop-place g l = slots l.least ≡ padded slot_count (map (weak_place (g.R.Soft.strengths l.reading)) (ranked (burst (means g.R.Hard g.R.Soft) g.R.Kind.Ordered l.reading) l.place))
