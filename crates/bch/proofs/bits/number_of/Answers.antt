@@ -1,7 +1,7 @@
 use Rattle.std.proofs.Common.{◌≡◌, ◌+◌, ◌*◌, ◌^◌, ◌<◌, ◌≤◌, Bool, List, ◌++◌, [], ◌∷◌, length, refl, arith, append_assoc, pow_mono}
 use Rattle.std.proofs.lemmas.Grind.{common_steps}
 use Rattle.galois.specs.Polynomials.{digit, number}
-use Rattle.galois.proofs.Words.{number_lt, byte_digit}
+use Rattle.galois.proofs.Words.{number_lt, byte_digit, digit_lt}
 use Rattle.bch.proofs.bits.number_of.Goals as goal
 
 pub loop-place-init : goal.loop-place-init
@@ -21,7 +21,7 @@ overflow_mul-value c =
 pub overflow_add-value : goal.overflow_add-value
 overflow_add-value c =
     let inv = c.loop-place.invariant in
-    omega (arith, fits _ _ _ inv.0 c.in-Some.place.now c.requires inv.1 c.in-Some.ensures.steps, byte_digit c.in-Some.place.now)
+    grind (arith, fits _ _ _ inv.0 c.in-Some.place.now c.requires inv.1 c.in-Some.ensures.steps, byte_digit, digit_lt)
 
 pub loop-place-preserved : goal.loop-place-preserved
 loop-place-preserved c = (c.in-Some.place.now ∷ c.loop-place.invariant.0, grind (arith, common_steps, append_assoc), grind (arith, byte_digit))
