@@ -17,7 +17,7 @@ pub fn encode(words: &[u32], number: u32, word: &mut Word) -> Result<(), Refusal
         return Err(Refusal::NoMessage);
     }
     let mut bits = [false; PLACES];
-    lay_message(words, code.parity(), &mut bits);
+    lay_message(words, code, &mut bits);
     let rest = divide(&bits, code);
     lay_parity(rest, code, &mut bits);
     word.fill(code, &bits);
