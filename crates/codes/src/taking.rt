@@ -7,15 +7,16 @@ ghost use Rattle.codes.specs.Calls.{Takes, InAfterOut};
 
 use crate::message::is_message;
 use crate::word::Word;
-use bch::{Code, MESSAGE_BITS, MESSAGE_WORDS, PLACES, WORD_BITS, number_of};
+use bch::{MESSAGE_BITS, MESSAGE_WORDS, WORD_BITS, number_of};
 use refusals::Refusal;
 use std::array;
 
 // The numbers that stand in the places of a message.
-fn words_in(bits: &[bool; PLACES], code: Code) -> [u32; MESSAGE_WORDS]
-    ensures { Read bits.now (parity code) result }
+fn words_in(word: &Word) -> [u32; MESSAGE_WORDS]
+    ensures { Read word.now.bits (parity word.now.code) result }
 {
-    let from = code.parity();
+    let bits = word.bits();
+    let from = word.code().parity();
     array::from_fn(|i| {
         let at = from + WORD_BITS * i;
         number_of(&bits[at..at + WORD_BITS])
@@ -23,11 +24,11 @@ fn words_in(bits: &[bool; PLACES], code: Code) -> [u32; MESSAGE_WORDS]
 }
 
 // Whether the places above those of the message are empty.
-fn spare_is_empty(bits: &[bool; PLACES], code: Code) -> bool
-    ensures yes { result ≡ true → Empty (spare_from code) bits.now }
-    ensures no { result ≡ false → Empty (spare_from code) bits.now → ⊥ }
+fn spare_is_empty(word: &Word) -> bool
+    ensures yes { result ≡ true → Empty (spare_from word.now.code) word.now.bits }
+    ensures no { result ≡ false → Empty (spare_from word.now.code) word.now.bits → ⊥ }
 {
-    !bits[code.parity() + MESSAGE_BITS..].contains(&true)
+    !word.bits()[word.code().parity() + MESSAGE_BITS..].contains(&true)
 }
 
 // Writes the message that the word carries to the caller's memory.
@@ -35,10 +36,8 @@ pub fn take_message(word: &Word, message: &mut [u32; MESSAGE_WORDS]) -> Result<(
     ensures call { Takes word.now message.old message.new result }
     ensures in_after_out { InAfterOut }
 {
-    let bits = word.bits();
-    let code = word.code();
-    let words = words_in(bits, code);
-    if !spare_is_empty(bits, code) || !is_message(&words) {
+    let words = words_in(word);
+    if !spare_is_empty(word) || !is_message(&words) {
         return Err(Refusal::NoMessage);
     }
     *message = words;

@@ -6,7 +6,8 @@ use Rattle.codes.proofs.taking.spare_is_empty.Goals as goal
 
 pub returns : goal.returns
 returns c =
-    let cases = rw c.parity.ensures at c.contains.ensures.cases in
-    let from = spare_from c.args.code in
-    let is = ones_from c.args.bits.now from (255 - from) c.contains.result (omega (arith, spare_below c.args.code)) (omega arith) cases in
+    let word = c.args.word.now in
+    let cases = rw (c.bits.ensures.value, c.parity.ensures, c.code.ensures) at c.contains.ensures.cases in
+    let from = spare_from word.code in
+    let is = ones_from word.bits from (255 - from) c.contains.result (omega (arith, spare_below word.code, word.long)) word.long cases in
     record { yes = is.0; no = is.1 }
