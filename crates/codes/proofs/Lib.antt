@@ -1,5 +1,5 @@
-pub mod Dividing
 pub mod Same
 pub mod Deciding
 pub mod Inverse
 pub mod Reading
+pub mod Laying

@@ -1,38 +1,43 @@
 -- Words read out of their places, and each way out of taking a message. Assumes nothing.
-use Rattle.std.proofs.Common.{◌≡◌, ℕ, suc, ◌+◌, ◌-◌, ◌*◌, ◌^◌, ◌<◌, ◌≤◌, Bool, false, List, ◌∷◌, length, get_or, take, drop, Ok, Err, sym, refl, ap, ◌∙◌, ap₂, inl, arith, length-take, pow_mono}
-use Rattle.std.proofs.lemmas.List.{drop_more, ext_get_or}
+use Rattle.std.specs.List.{IsAnyAnswer}
+use Rattle.std.proofs.lemmas.Bool.{false≢true}
+use mathlib.Core.Bool.{beq}
+use Rattle.std.proofs.Common.{true, not, length-drop, ◌≡◌, ℕ, ◌+◌, ◌-◌, ◌<◌, Bool, false, List, length, get_or, take, drop, Ok, Err, sym, refl, ap, ◌∙◌, inl, arith, length-take}
+use Rattle.std.proofs.lemmas.List.{ext_get_or, get_or-take, get_or-drop, length-take-le}
 use Rattle.refusals.specs.declared.refusal.Refusal.TheVariants.{NoMessage}
-use Rattle.galois.specs.Polynomials.{digit, number, bit}
-use Rattle.galois.proofs.Words.{number_lt}
+use Rattle.galois.specs.Polynomials.{bit}
 use Rattle.bch.specs.declared.code.Code.{Code}
 use Rattle.bch.specs.Codes.{places, parity}
-use Rattle.bch.specs.Messages.{message_words, word_bits, Message, Carries, spare_from, Empty}
+use Rattle.bch.specs.Messages.{message_words, Message, Carries, spare_from, Empty}
 use Rattle.bch.proofs.Messages.{carried_read, carried_once, read_bit}
 use Rattle.codes.specs.declared.word.Word.{Word}
 use Rattle.codes.specs.Steps.{Read}
 use Rattle.codes.specs.Calls.{Takes}
 
--- a number read so far, from its highest place down to place b
-abbrev pub read_from : List Bool → ℕ → ℕ → ℕ
-read_from w from b = number (take (word_bits - b) (drop (from + b) w))
-
-pub read_lt : (w : List Bool) (from b : ℕ) → read_from w from b < 2 ^ (word_bits - b)
-read_lt w from b =
-    let part = take (word_bits - b) (drop (from + b) w) in
-    let short : length part ≤ word_bits - b = omega (arith, length-take (word_bits - b) (drop (from + b) w)) in
-    omega (arith, number_lt part, pow_mono {i = length part} {j = word_bits - b} short)
-
-pub read_room : (w : List Bool) (from b : ℕ) → 0 < b → read_from w from b < 2 ^ 31
-read_room w from b pos =
-    let short : word_bits - b ≤ 31 = omega arith in
-    omega (arith, read_lt w from b, pow_mono {i = word_bits - b} {j = 31} short)
-
-pub read_more : (w : List Bool) (from b : ℕ) → 0 < b → b ≤ word_bits → from + word_bits ≤ length w → read_from w from b * 2 + digit (get_or w (from + (b - 1)) false) ≡ read_from w from (b - 1)
-read_more w from b pos h l =
-    let at = from + (b - 1) in
-    let next : at + 1 ≡ from + b = omega arith in
-    let more : word_bits - (b - 1) ≡ suc (word_bits - b) = omega arith in
-    sym (ap₂ (λ n v. number (take n v)) more (drop_more w at false (omega arith) ∙ ap (λ z. get_or w at false ∷ drop z w) next))
+-- what an answer says that tells whether a place from `from` on holds one
+pub ones_from : (w : List Bool) (from n : ℕ) (some : Bool) → from + n ≡ length w → length w ≡ places → IsAnyAnswer (λ b t. beq b true ≡ t) (take n (drop from w)) some
+    → (not some ≡ true → Empty from w) × (not some ≡ false → Empty from w → ⊥)
+ones_from w from n true whole long one = (
+  λ e. absurd (false≢true e),
+  λ _ none.
+      let k = one.0 in
+      let short : k < n = omega (arith, one.1, length-take n (drop from w)) in
+      let is = rw (get_or-take n (drop from w) k false short ∙ get_or-drop from w k false) at (one.2 false) in
+      false≢true (rw (none (from + k) (omega arith) (omega arith)) at is),
+)
+ones_from w from n false whole long none = (
+  λ _ i lo hi.
+      let k : ℕ = i - from in
+      let back : from + k ≡ i = omega arith in
+      let short : k < n = omega arith in
+      let is = rw (get_or-take n (drop from w) k false short ∙ get_or-drop from w k false ∙ ap (λ j. get_or w j false) back) at (none k false (omega arith) (omega (arith, length-take-le n (drop from w), length-drop from w))) in
+      not_one (get_or w i false) is,
+  λ e. absurd (false≢true (sym e)),
+)
+  where
+    not_one : (b : Bool) → beq b true ≡ false → b ≡ false
+    not_one true e = e
+    not_one false e = refl
 
 -- the words that are read are the carried ones
 pub carried_words : (k : Code) (w : List Bool) (m read : List ℕ) → length w ≡ places → Read w (parity k) read → Carries k m w → m ≡ read

@@ -3,7 +3,7 @@ ghost use Rattle.std.specs.Prelude.{◌≡◌, ◌^◌, ◌<◌, ◌++◌, drop,
 ghost use Rattle.galois.specs.Polynomials.{twice, digit, bits, remainder, Divided};
 ghost use Rattle.bch.specs.Codes.{parity, generator};
 
-use bch::{Code, PLACES};
+use bch::{Code, PLACES, lay_number};
 
 // The remainder with one place more below: x times the remainder plus that place.
 fn divide_step(rest: u32, place: bool, code: Code) -> u32
@@ -21,8 +21,8 @@ pub fn divide(bits: &[bool; PLACES], code: Code) -> u32
     ensures divided { Divided (parity code) (generator code) bits.now result }
 {
     let mut rest = 0;
-    for i in (0..PLACES).rev() {
-        rest = divide_step(rest, bits[i], code);
+    for place in bits.iter().rev() {
+        rest = divide_step(rest, *place, code);
     }
     rest
 }
@@ -31,7 +31,5 @@ pub fn divide(bits: &[bool; PLACES], code: Code) -> u32
 pub fn lay_parity(rest: u32, code: Code, places: &mut [bool; PLACES])
     ensures { places.new ≡ bits (parity code) rest ++ drop (parity code) places.old }
 {
-    for i in 0..code.parity() {
-        places[i] = (rest >> i) % 2 == 1;
-    }
+    lay_number(rest, &mut places[..code.parity()]);
 }

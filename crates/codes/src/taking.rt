@@ -1,51 +1,34 @@
 // From a codeword to the message that it carries.
-ghost use Rattle.std.specs.Prelude.{◌≡◌, ◌+◌, ◌*◌, ◌≤◌, true, false, take, drop};
-ghost use Rattle.galois.specs.Polynomials.{number};
-ghost use Rattle.bch.specs.Codes.{places};
-ghost use Rattle.bch.specs.Messages.{word_bits, message_words, Empty};
+ghost use Rattle.std.specs.Prelude.{◌≡◌, true, false};
+ghost use Rattle.bch.specs.Codes.{parity};
+ghost use Rattle.bch.specs.Messages.{Empty, spare_from};
 ghost use Rattle.codes.specs.Steps.{Read};
 ghost use Rattle.codes.specs.Calls.{Takes, InAfterOut};
 
 use crate::message::is_message;
 use crate::word::Word;
-use bch::{MESSAGE_BITS, MESSAGE_WORDS, PLACES, WORD_BITS};
+use bch::{MESSAGE_BITS, MESSAGE_WORDS, WORD_BITS, number_of};
 use refusals::Refusal;
+use std::array;
 
-// The number in the 32 places from `from` on.
-fn word_at(bits: &[bool; PLACES], from: usize) -> u32
-    requires { from + word_bits ≤ places }
-    ensures { result ≡ number (take word_bits (drop from bits.now)) }
+// The numbers that stand in the places of a message.
+fn words_in(word: &Word) -> [u32; MESSAGE_WORDS]
+    ensures { Read word.now.bits (parity word.now.code) result }
 {
-    let mut value = 0;
-    for b in (0..WORD_BITS).rev() {
-        value = value * 2 + u32::from(bits[from + b]);
-    }
-    value
+    let bits = word.bits();
+    let from = word.code().parity();
+    array::from_fn(|i| {
+        let at = from + WORD_BITS * i;
+        number_of(&bits[at..at + WORD_BITS])
+    })
 }
 
-// The numbers that stand in the places from `from` on.
-fn words_at(bits: &[bool; PLACES], from: usize) -> [u32; MESSAGE_WORDS]
-    requires { from + word_bits * message_words ≤ places }
-    ensures { Read bits.now from result }
+// Whether the places above those of the message are empty.
+fn spare_is_empty(word: &Word) -> bool
+    ensures yes { result ≡ true → Empty (spare_from word.now.code) word.now.bits }
+    ensures no { result ≡ false → Empty (spare_from word.now.code) word.now.bits → ⊥ }
 {
-    let mut words = [0; MESSAGE_WORDS];
-    for i in 0..MESSAGE_WORDS {
-        words[i] = word_at(bits, from + WORD_BITS * i);
-    }
-    words
-}
-
-// Whether the places from `from` on are empty.
-fn empty_from(bits: &[bool; PLACES], from: usize) -> bool
-    ensures yes { result ≡ true → Empty from bits.now }
-    ensures no { result ≡ false → Empty from bits.now → ⊥ }
-{
-    for i in from..PLACES {
-        if bits[i] {
-            return false;
-        }
-    }
-    true
+    !word.bits()[word.code().parity() + MESSAGE_BITS..].contains(&true)
 }
 
 // Writes the message that the word carries to the caller's memory.
@@ -53,12 +36,8 @@ pub fn take_message(word: &Word, message: &mut [u32; MESSAGE_WORDS]) -> Result<(
     ensures call { Takes word.now message.old message.new result }
     ensures in_after_out { InAfterOut }
 {
-    let from = word.code().parity();
-    let words = words_at(word.bits(), from);
-    if !empty_from(word.bits(), from + MESSAGE_BITS) {
-        return Err(Refusal::NoMessage);
-    }
-    if !is_message(&words) {
+    let words = words_in(word);
+    if !spare_is_empty(word) || !is_message(&words) {
         return Err(Refusal::NoMessage);
     }
     *message = words;

@@ -10,7 +10,7 @@ use bch::{Code, PLACES};
 use field::{Element, power};
 
 // The sums of α^i, α^(3i) and α^(5i) over the places i that hold one.
-#[derive(Clone, Copy)]
+#[derive(Clone, Copy, PartialEq, Eq, Debug, Default)]
 pub struct Sums {
     pub one: Element,
     pub three: Element,
@@ -22,11 +22,7 @@ impl Sums {
     pub fn new() -> Sums
         ensures { SumsOf [] result }
     {
-        Sums {
-            one: 0,
-            three: 0,
-            five: 0,
-        }
+        Sums::default()
     }
 
     // Those of the received word.
@@ -34,15 +30,17 @@ impl Sums {
         ensures { SumsOf (received_bits received.now) result }
     {
         let mut sums = Sums::new();
-        for i in 0..PLACES {
-            if received.bit(i) {
-                sums.flip(i);
+        // Places are asked by number, so that a received word may hold its bits as it likes.
+        for place in 0..PLACES {
+            if received.bit(place) {
+                sums.flip(place);
             }
         }
         sums
     }
 
     // Adds what a one at the place adds to each; a second time takes it away again.
+    #[tactic(auto, unfolding(field::specs::Bytes::bytes))]
     pub fn flip(&mut self, place: usize)
         requires { place < places }
         ensures { Flips place self.old self.new }

@@ -7,6 +7,7 @@ ghost use Rattle.wire.specs.Bytes.{record_words, sample, Sends};
 use bch::{MESSAGE_WORDS, PLACES};
 use codes::{Word, encode};
 use refusals::Refusal;
+use std::array;
 
 // The bytes of a 32-bit word, and of a record, which holds a message.
 const BYTES_IN_WORD: usize = 4;
@@ -20,12 +21,10 @@ const SEND_CODE: u32 = 2;
 pub fn record_words(bytes: &[u8; RECORD_BYTES]) -> [u32; MESSAGE_WORDS]
     ensures { result ≡ record_words bytes.now }
 {
-    let mut words = [0; MESSAGE_WORDS];
-    for i in 0..MESSAGE_WORDS {
+    array::from_fn(|i| {
         let at = BYTES_IN_WORD * i;
-        words[i] = u32::from_be_bytes([bytes[at], bytes[at + 1], bytes[at + 2], bytes[at + 3]]);
-    }
-    words
+        u32::from_be_bytes([bytes[at], bytes[at + 1], bytes[at + 2], bytes[at + 3]])
+    })
 }
 
 // A bit as a sample: 127 for one, -127 for zero.
@@ -39,9 +38,7 @@ fn sample_of(bit: bool) -> u8
 pub fn lay_samples(bits: &[bool; PLACES], samples: &mut [u8; PLACES])
     ensures { samples.new ≡ map sample bits.now }
 {
-    for i in 0..PLACES {
-        samples[i] = sample_of(bits[i]);
-    }
+    *samples = bits.map(sample_of);
 }
 
 // The samples of the message in a record.

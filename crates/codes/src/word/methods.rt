@@ -24,6 +24,7 @@ impl Word {
     }
 
     // The bit at each place; they are the word's places as a hard reading.
+    #[tactic(auto, unfolding(crate::specs::Calls::word_places))]
     pub fn bits(&self) -> &[bool; PLACES]
         ensures value { result.now ≡ self.now.bits }
         ensures reading { hard.places self.now ≡ map Some result.now }

@@ -5,6 +5,7 @@ use bch::PLACES;
 use readings::Hard;
 
 // The corrected word as a hard reading.
+#[tactic(auto, unfolding(crate::specs::Calls::word_places))]
 impl Hard for Word {
     ghost places = { word_places };
 
@@ -13,10 +14,6 @@ impl Hard for Word {
     }
 
     fn bit(&self, place: usize) -> Option<bool> {
-        if place < PLACES {
-            Some(self.bits[place])
-        } else {
-            None
-        }
+        self.bits.get(place).copied()
     }
 }

@@ -13,11 +13,8 @@ fn copied<R: Hard>(reading: &R) -> Result<[bool; PLACES], Refusal>
     ensures { Copies (R.Hard.places reading.now) result }
 {
     let mut bits = [false; PLACES];
-    for i in 0..PLACES {
-        let Some(bit) = reading.bit(i) else {
-            return Err(Refusal::Unsound { place: i });
-        };
-        bits[i] = bit;
+    for (place, slot) in bits.iter_mut().enumerate() {
+        *slot = reading.bit(place).ok_or(Refusal::Unsound { place })?;
     }
     Ok(bits)
 }
@@ -27,7 +24,7 @@ impl Received {
     pub fn of<R: Hard>(reading: &R, number: u32) -> Result<Received, Refusal>
         ensures { Receives (R.Hard.places reading.now) number result }
     {
-        let code = Code::of(number)?;
+        let code = Code::try_from(number)?;
         if reading.len() != PLACES {
             return Err(Refusal::WrongLength);
         }
@@ -42,6 +39,7 @@ impl Received {
     }
 
     // The bit at a place.
+    #[tactic(auto, unfolding(crate::specs::Receiving::received_bits))]
     pub fn bit(&self, place: usize) -> bool
         requires { place < places }
         ensures { result ≡ slice_index_or (received_bits self.now) place false }

@@ -1,8 +1,8 @@
-use Rattle.std.proofs.Common.{◌≡◌, drop}
+use Rattle.std.proofs.Common.{◌≡◌, Bool, List, ◌++◌}
 use Rattle.galois.specs.Polynomials.{remainder}
 use Rattle.bch.specs.Codes.{parity, generator}
 use Rattle.codes.proofs.division.divide.Given as goal
 
--- the remainder of the places from i on
-abbrev pub invariant-loop-i : goal.invariant-loop-i
-invariant-loop-i l = l.rest ≡ remainder (parity l.code) (generator l.code) (drop l.i l.bits)
+-- the remainder of the places that are behind, from the highest down
+abbrev pub invariant-loop-place : goal.invariant-loop-place
+invariant-loop-place l = (done : List Bool) × (l.fn.bits ≡ l.place-iterator.iter.rest.now ++ done) × (l.rest ≡ remainder (parity l.code) (generator l.code) done)

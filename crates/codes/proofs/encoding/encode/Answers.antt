@@ -1,9 +1,8 @@
-use Rattle.std.proofs.Common.{◌≡◌, false, replicate, sym, ◌∙◌, subst}
+use Rattle.std.proofs.Common.{◌≡◌, sym, ◌∙◌, subst}
 use Rattle.std.proofs.lemmas.Result.{err_from_is_err_and}
-use Rattle.bch.specs.Codes.{places, Codeword}
+use Rattle.bch.specs.Codes.{Codeword}
 use Rattle.bch.specs.Messages.{Message, encoding}
 use Rattle.bch.proofs.Encoding.{encoding_codeword}
-use Rattle.codes.specs.Steps.{Laid}
 use Rattle.codes.proofs.Inverse.{out_after_in}
 use Rattle.codes.proofs.Deciding.{refuse_code, refuse_message, accept, laid_payload, built}
 use Rattle.codes.proofs.encoding.encode.Goals as goal
@@ -28,9 +27,8 @@ message c = c.is_message.ensures.yes c.if-not-is_message.false
 filled : (c : After-lay_parity) → c.lay_parity.new.places ≡ encoding c.in_ok-code.code c.args.words.now
 filled c =
     let k = c.in_ok-code.code in
-    let laid = subst (λ n. Laid c.args.words.now n (replicate places false) c.lay_message.new.bits) c.parity.ensures c.lay_message.ensures in
     built k c.args.words.now c.lay_message.new.bits c.lay_parity.new.places c.divide-rest.result
-    (laid_payload k c.args.words.now c.lay_message.new.bits (message c) c.lay_message.array_long laid)
+    (laid_payload k c.args.words.now c.lay_message.new.bits (message c) c.lay_message.array_long c.lay_message.ensures)
     c.divide-rest.ensures.value c.lay_parity.ensures
 
 pub fill-requires : goal.fill-requires

@@ -4,5 +4,5 @@ use Rattle.receiving.specs.Syndromes.{SumsOf}
 use Rattle.receiving.proofs.sums.Sums.of.Given as goal
 
 -- the sums of the places below i
-abbrev pub invariant-loop-i : goal.invariant-loop-i
-invariant-loop-i l = SumsOf (take l.i (received_bits l.received)) l.sums
+abbrev pub invariant-loop-place : goal.invariant-loop-place
+invariant-loop-place l = SumsOf (take l.place (received_bits l.received)) l.sums

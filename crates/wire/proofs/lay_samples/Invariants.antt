@@ -1,7 +1,0 @@
-use Rattle.std.proofs.Common.{◌≡◌, ℕ, ◌<◌, false, length, get_or}
-use Rattle.wire.specs.Bytes.{sample}
-use Rattle.wire.proofs.lay_samples.Given as goal
-
--- the samples below i are those of the bits
-abbrev pub invariant-loop-i : goal.invariant-loop-i
-invariant-loop-i l = (length l.samples ≡ 255) × ((j : ℕ) → j < l.i → get_or l.samples j 0 ≡ sample (get_or l.bits j false))
