@@ -6,27 +6,33 @@ ghost use Rattle.bch.specs.Codes.{places, code_number, parity, generator, CodeOf
 use super::code::Code;
 use refusals::Refusal;
 
-impl Code {
-    // The code that has this number.
-    pub fn of(number: u32) -> Result<Code, Refusal>
-        ensures { CodeOf number result }
-    {
+// The code that has this number.
+impl TryFrom<u32> for Code {
+    type Error = Refusal;
+
+    ghost try_from_gives = { CodeOf };
+
+    fn try_from(number: u32) -> Result<Code, Refusal> {
         match number {
             2 => Ok(Code::Two),
             3 => Ok(Code::Three),
             _ => Err(Refusal::UnknownCode),
         }
     }
+}
 
-    pub fn number(self) -> u32
-        ensures { result ≡ code_number self }
-    {
-        match self {
+impl From<Code> for u32 {
+    ghost from_gives = { λ code number. number ≡ code_number code };
+
+    fn from(code: Code) -> u32 {
+        match code {
             Code::Two => 2,
             Code::Three => 3,
         }
     }
+}
 
+impl Code {
     // How many places at the bottom of a word are parity.
     pub fn parity(self) -> usize
         ensures { result ≡ parity self }

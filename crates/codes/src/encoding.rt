@@ -12,7 +12,7 @@ pub fn encode(words: &[u32], number: u32, word: &mut Word) -> Result<(), Refusal
     ensures call { Encodes words.now number word.old word.new result }
     ensures out_after_in { OutAfterIn }
 {
-    let code = Code::of(number)?;
+    let code = Code::try_from(number)?;
     if !is_message(words) {
         return Err(Refusal::NoMessage);
     }

@@ -48,7 +48,7 @@ impl fmt::Display for Returned {
     ghost output = { λ r. Some (numbers_text (returned r.0)) };
 
     fn fmt<W: fmt::Write>(&self, f: &mut fmt::Formatter<W>) -> fmt::Result {
-        let number = self.0.number();
+        let number = u8::from(self.0);
         match self.0 {
             Refusal::Unsound { place } => write!(f, " {number} {place}"),
             _ => write!(f, " {number}"),

@@ -3,12 +3,12 @@ ghost use Rattle.refusals.specs.Refusals.{outcome, nothing, returned};
 
 use super::refusal::Refusal;
 
-impl Refusal {
-    // The number that two makers' receivers know the refusal by.
-    pub fn number(self) -> u8
-        ensures { result ≡ slice_index (returned self) 0 }
-    {
-        match self {
+// The number that two makers' receivers know the refusal by.
+impl From<Refusal> for u8 {
+    ghost from_gives = { λ refusal number. number ≡ slice_index (returned refusal) 0 };
+
+    fn from(refusal: Refusal) -> u8 {
+        match refusal {
             Refusal::UnknownCode => 1,
             Refusal::WrongLength => 2,
             Refusal::Unsound { place: _ } => 3,
@@ -28,6 +28,6 @@ pub fn outcome_number(answer: &Result<(), Refusal>) -> u8
 {
     match answer {
         Ok(()) => 0,
-        Err(refusal) => refusal.number(),
+        Err(refusal) => u8::from(*refusal),
     }
 }

@@ -21,7 +21,7 @@ fn push_number(heap: Global, n: usize, out: &mut Vec<u8>) -> Result<(), AllocErr
 fn push_returned(heap: Global, refusal: Refusal, out: &mut Vec<u8>) -> Result<(), AllocError>
     ensures { OnOk result (out.new.items ≡ out.old.items ++ numbers_text (returned refusal)) }
 {
-    push_number(heap, usize::from(refusal.number()), out)?;
+    push_number(heap, usize::from(u8::from(refusal)), out)?;
     match refusal {
         Refusal::Unsound { place } => push_number(heap, place, out),
         _ => Ok(()),

@@ -16,7 +16,7 @@ use readings::{Soft, Strength};
 fn weak_count(code: Code) -> usize
     ensures { result ≡ 2 * code_number code }
 {
-    2 * code.number() as usize
+    2 * u32::from(code) as usize
 }
 
 // Asks every place's strength once, and keeps the weakest. Every place is sound, so each has one.

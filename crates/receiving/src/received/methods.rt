@@ -27,7 +27,7 @@ impl Received {
     pub fn of<R: Hard>(reading: &R, number: u32) -> Result<Received, Refusal>
         ensures { Receives (R.Hard.places reading.now) number result }
     {
-        let code = Code::of(number)?;
+        let code = Code::try_from(number)?;
         if reading.len() != PLACES {
             return Err(Refusal::WrongLength);
         }
