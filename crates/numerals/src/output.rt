@@ -1,57 +1,47 @@
 // Words and bytes as they are printed.
-ghost use Rattle.std.specs.Prelude.{◌≡◌, ◌%◌, ◌++◌, Some, OnOk};
-ghost use Rattle.numerals.specs.Numerals.{hex_word, upper_digit, hex_text, bytes_text};
+ghost use Rattle.std.specs.Prelude.{◌≡◌, Some};
+ghost use Rattle.numerals.specs.Numerals.{hex_word, hex_text, bytes_text};
 
-use std::alloc::AllocError;
+use std::fmt;
 
-// The upper-case hex digit of the lowest four bits.
-fn last_digit(x: u32) -> u8
-    ensures { result ≡ upper_digit (x % 16) }
-{
-    let d = (x % 16) as u8;
-    if d < 10 { b'0' + d } else { b'A' - 10 + d }
-}
+// A word as it is printed: eight upper-case hex digits, high digit first.
+#[derive(Clone, Copy)]
+pub struct HexWord(u32);
 
-// A byte as two upper-case hex digits.
-fn byte_text(b: u8) -> [u8; 2]
-    ensures { result ≡ hex_text 2 b }
-{
-    let x = u32::from(b);
-    [last_digit(x >> 4), last_digit(x)]
-}
-
-// A word as eight upper-case hex digits, high digit first.
-fn hex_text(w: u32) -> [u8; 8]
-    ensures text { result ≡ hex_text 8 w }
-    ensures reads_back { hex_word result ≡ Some w }
-{
-    [
-        last_digit(w >> 28),
-        last_digit(w >> 24),
-        last_digit(w >> 20),
-        last_digit(w >> 16),
-        last_digit(w >> 12),
-        last_digit(w >> 8),
-        last_digit(w >> 4),
-        last_digit(w),
-    ]
-}
-
-// Puts a word after `out`, as eight upper-case hex digits.
-pub fn push_word_text(out: &mut Vec<u8>, w: u32) -> Result<(), AllocError>
-    ensures { OnOk result (out.new.items ≡ out.old.items ++ hex_text 8 w) }
-{
-    let text = hex_text(w);
-    out.extend_from_slice(&text)
-}
-
-// Puts bytes after `out`, each as two upper-case hex digits.
-pub fn push_bytes_text(out: &mut Vec<u8>, bytes: &[u8]) -> Result<(), AllocError>
-    ensures { OnOk result (out.new.items ≡ out.old.items ++ bytes_text bytes.now) }
-{
-    for b in bytes {
-        let text = byte_text(*b);
-        out.extend_from_slice(&text)?;
+impl HexWord {
+    // What is printed of a word reads back as the word.
+    #[tactic(auto, using(crate::proofs::Writing::word_reads_back))]
+    pub fn new(word: u32) -> HexWord
+        ensures word { result.0 ≡ word }
+        ensures reads_back { hex_word (hex_text 8 word) ≡ Some word }
+    {
+        HexWord(word)
     }
-    Ok(())
+}
+
+impl fmt::Display for HexWord {
+    ghost output = { λ h. Some (hex_text 8 h.0) };
+
+    #[tactic(auto, using(crate::proofs::Padding::word_padded))]
+    fn fmt<W: fmt::Write>(&self, f: &mut fmt::Formatter<W>) -> fmt::Result {
+        let word = self.0;
+        write!(f, "{word:08X}")
+    }
+}
+
+// Bytes as they are printed: two upper-case hex digits each, in order.
+#[derive(Clone, Copy)]
+pub struct HexBytes<'a>(pub &'a [u8]);
+
+impl fmt::Display for HexBytes<'_> {
+    ghost output = { λ h. Some (bytes_text h.0.now) };
+
+    #[tactic(auto, unfolding(crate::specs::Numerals::bytes_text))]
+    fn fmt<W: fmt::Write>(&self, f: &mut fmt::Formatter<W>) -> fmt::Result {
+        for b in self.0 {
+            let byte = *b;
+            write!(f, "{byte:02X}")?;
+        }
+        Ok(())
+    }
 }

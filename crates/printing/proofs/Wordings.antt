@@ -1,36 +1,14 @@
--- What is written piece by piece. Assumes nothing.
-use Rattle.std.proofs.Common.{◌≡◌, ℕ, ◌+◌, ◌<◌, ◌≤◌, List, [], ◌∷◌, ◌++◌, length, get_or, drop, decimal, sym, refl, ap, ◌∙◌, append_assoc, append-nil}
-use Rattle.std.proofs.lemmas.List.{at_drop_more, at_drop_all}
+-- What is written word by word. Assumes nothing.
+use Rattle.std.proofs.Common.{◌≡◌, ℕ, ◌+◌, ◌<◌, List, [], ◌∷◌, ◌++◌, length, get_or, take, sym, ap, ◌∙◌, append_assoc, append-nil}
+use Rattle.std.proofs.lemmas.List.{take_more}
 use Rattle.numerals.specs.Numerals.{hex_text}
-use Rattle.refusals.specs.declared.refusal.Refusal.{Refusal}
-use Rattle.refusals.specs.declared.refusal.Refusal.TheVariants.{UnknownCode, WrongLength, Unsound, Unreadable, NoMessage, CountFull, TallyFull, NoLine, ShortOutput}
-use Rattle.refusals.specs.Refusals.{returned}
-use Rattle.printing.specs.Texts.{numbers_text, words_text}
+use Rattle.printing.specs.Texts.{words_text}
+
+words_append : (words : List ℕ) (w : ℕ) → words_text (words ++ w ∷ []) ≡ words_text words ++ 32 ∷ hex_text 8 w
+unfolding words_text
+words_append [] w = append-nil (32 ∷ hex_text 8 w)
+words_append (v ∷ words) w = ap (λ t. (32 ∷ hex_text 8 v) ++ t) (words_append words w) ∙ sym (append_assoc (32 ∷ hex_text 8 v) (words_text words) (32 ∷ hex_text 8 w))
 
 -- the text of one more word
-pub word_more : (out spaced after : List ℕ) (words : List ℕ) (i : ℕ) → i < length words → spaced ≡ out ++ 32 ∷ [] → after ≡ spaced ++ hex_text 8 (get_or words i 0) → after ++ words_text (drop (i + 1) words) ≡ out ++ words_text (drop i words)
-unfolding words_text
-word_more out spaced after words i h e f =
-    let split : words_text (drop i words) ≡ (32 ∷ hex_text 8 (get_or words i 0)) ++ words_text (drop (i + 1) words) = at_drop_more words_text words i 0 h in
-    simp (f, e, split, append_assoc)
-
-pub words_done : (out words : List ℕ) (i : ℕ) → length words ≤ i → out ++ words_text (drop i words) ≡ out
-unfolding words_text
-words_done out words i h =
-    let none : words_text (drop i words) ≡ [] = at_drop_all words_text words i h in
-    rw (none, append-nil)
-
--- a refusal other than that of an unsound place returns its number alone
-pub number_alone : (x : Refusal) → ((place : ℕ) → x ≡ Unsound place → ⊥) → returned x ≡ get_or (returned x) 0 0 ∷ []
-number_alone UnknownCode n = refl
-number_alone WrongLength n = refl
-number_alone (Unsound place) n = absurd (n place refl)
-number_alone Unreadable n = refl
-number_alone NoMessage n = refl
-number_alone CountFull n = refl
-number_alone TallyFull n = refl
-number_alone NoLine n = refl
-number_alone ShortOutput n = refl
-
-pub one_number : (x : Refusal) (n : ℕ) → ((place : ℕ) → x ≡ Unsound place → ⊥) → n ≡ get_or (returned x) 0 0 → 32 ∷ decimal n ≡ numbers_text (returned x)
-one_number x n alone is = sym (ap numbers_text (number_alone x alone) ∙ append-nil (32 ∷ decimal (get_or (returned x) 0 0)) ∙ ap (λ m. 32 ∷ decimal m) (sym is))
+pub word_more : (words : List ℕ) (i : ℕ) → i < length words → words_text (take (i + 1) words) ≡ words_text (take i words) ++ 32 ∷ hex_text 8 (get_or words i 0)
+word_more words i h = ap words_text (take_more words i 0 h) ∙ words_append (take i words) (get_or words i 0)

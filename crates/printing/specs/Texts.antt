@@ -3,6 +3,8 @@ use Rattle.std.specs.Prelude.{ℕ, ◌-◌, Bool, cond, List, [], ◌∷◌, ◌
 use Rattle.refusals.specs.declared.refusal.Refusal.{Refusal}
 use Rattle.refusals.specs.Refusals.{returned}
 use Rattle.numerals.specs.Numerals.{hex_text, bytes_text}
+use Rattle.printing.specs.declared.answer.Answer.{Answer}
+use Rattle.printing.specs.declared.answer.Answer.TheVariants.{Word, Message, Tested, Refused, NotUnderstood}
 use Rattle.printing.specs.Packing.{packing}
 
 -- a text as a line, with its newline (byte 10)
@@ -43,6 +45,14 @@ not_understood_text = codes "not understood"
 abbrev pub answer_text : {X : Type 0} → (X → List ℕ) → Result X Refusal → List ℕ
 answer_text accepted (Ok x) = accepted x
 answer_text accepted (Err refusal) = refused_text refusal
+
+-- the text that a line prints
+abbrev pub said : Answer → List ℕ
+said (Word bits) = word_text bits.now
+said (Message words) = message_text words.now
+said (Tested answer) = yes_no_text answer
+said (Refused refusal) = refused_text refusal
+said NotUnderstood = not_understood_text
 
 -- the end of a script, by the numbers of calls and of accepted calls
 unfoldable pub summary_text : ℕ → ℕ → List ℕ

@@ -1,8 +1,10 @@
-// What the programs print, as bytes.
+// What the programs print.
 #![tactic(auto)]
 
+mod answer;
+mod line;
 mod packing;
-mod texts;
 
+pub use answer::Answer;
+pub use line::put_line;
 pub use packing::packed;
-pub use texts::{push_message, push_not_understood, push_refusal, push_word, push_yes_no};

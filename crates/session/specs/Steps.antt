@@ -5,7 +5,7 @@ use Rattle.bch.specs.Messages.{message_words}
 use Rattle.codes.specs.Calls.{Encodes, Takes}
 use Rattle.script_text.specs.Lines.{Meaning, says_nothing, not_understood, call_encode, call_take, meaning}
 use Rattle.session.specs.declared.session.Session.{Session}
-use Rattle.session.specs.Texts.{printed, not_understood_text, answer_text, word_text, message_text}
+use Rattle.printing.specs.Texts.{printed, not_understood_text, answer_text, word_text, message_text}
 
 -- a count with one more; it stays at the highest number of 64 bits
 abbrev pub raised : ℕ → ℕ
@@ -21,7 +21,7 @@ pub record EncodeLine (code : ℕ) (words : List ℕ) (old new : Session) (text 
   pub answer : Result (Unit {0}) Refusal
   pub call : Encodes words code old.word new.word answer
   pub counted : Counted (is_ok answer) old new
-  pub prints : text ≡ printed (answer_text (word_text new.word.bits) answer)
+  pub prints : text ≡ printed (answer_text (λ _. word_text new.word.bits) answer)
 
 -- take: the session's word stays, and the message goes to a memory of zeros
 pub record TakeLine (old new : Session) (text : List ℕ) : Type 0 where
@@ -30,7 +30,7 @@ pub record TakeLine (old new : Session) (text : List ℕ) : Type 0 where
   pub call : Takes old.word (replicate message_words 0) message answer
   pub same : new.word ≡ old.word
   pub counted : Counted (is_ok answer) old new
-  pub prints : text ≡ printed (answer_text (message_text message) answer)
+  pub prints : text ≡ printed (answer_text (λ _. message_text message) answer)
 
 -- what a line does to a session and what it prints, by what it says
 abbrev pub Does : Meaning → Session → Session → List ℕ → Type 0

@@ -14,10 +14,7 @@ const NEWLINE: u8 = b'\n';
 fn without_newline(line: &[u8]) -> &[u8]
     ensures { WithoutNewline line.now result.now }
 {
-    match line.strip_suffix(b"\n") {
-        Some(text) => text,
-        None => line,
-    }
+    line.strip_suffix(b"\n").unwrap_or(line)
 }
 
 // Answers each line of the input. The memory grows with the longest line, and not with the script.
@@ -39,7 +36,7 @@ fn replay(
             break;
         }
         text.clear();
-        session.answer(heap, without_newline(&line), &mut text)?;
+        session.answer(without_newline(&line), &mut text)?;
         output.write_all(&text)?;
     }
     Ok(())
@@ -51,7 +48,7 @@ fn main(rt: HostRuntime) -> io::Result<()> {
     let mut output = BufWriter::new(rt.alloc(), rt.stdout())?;
     replay(rt.alloc(), &mut session, &mut input, &mut output)?;
     let mut end = Vec::new(rt.alloc());
-    session.summary(rt.alloc(), &mut end)?;
+    session.summary(&mut end)?;
     output.write_all(&end)?;
     output.flush()
 }

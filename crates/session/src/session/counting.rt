@@ -1,11 +1,12 @@
 ghost use Rattle.std.specs.Prelude.{◌≡◌, ◌++◌, OnOk};
 ghost use Rattle.codes.specs.Calls.{New};
-ghost use Rattle.session.specs.Texts.{summary_text, printed};
+ghost use Rattle.printing.specs.Texts.{summary_text, printed};
 ghost use Rattle.session.specs.Steps.{Counted};
 
 use super::Session;
 use codes::Word;
-use std::alloc::{AllocError, Global};
+use printing::put_line;
+use std::alloc::AllocError;
 
 impl Session {
     // A new word, and no calls yet.
@@ -32,14 +33,15 @@ impl Session {
         }
     }
 
-    // Puts the line that ends a script's output after `out`.
-    pub fn summary(&self, heap: Global, out: &mut Vec<u8>) -> Result<(), AllocError>
+    // Puts the line that ends a script's output after `out`, on the heap that `out` is on.
+    #[tactic(auto, unfolding(printing::specs::Texts::summary_text))]
+    pub fn summary(&self, out: &mut Vec<u8>) -> Result<(), AllocError>
         ensures { OnOk result (out.new.items ≡ out.old.items ++ printed (summary_text self.now.calls self.now.accepted)) }
     {
         let calls = self.calls;
         let accepted = self.accepted;
         let refused = calls - accepted;
-        let text = format!(in heap; "{calls} calls, {accepted} accepted, {refused} refused\n")?;
-        out.extend_from_slice(text.as_bytes())
+        let line = format_args!("{calls} calls, {accepted} accepted, {refused} refused");
+        put_line(&line, out)
     }
 }

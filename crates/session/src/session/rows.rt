@@ -2,53 +2,51 @@ ghost use Rattle.std.specs.Prelude.{OnOk};
 ghost use Rattle.session.specs.Steps.{Adds, EncodeLine, TakeLine, Steps};
 
 use super::Session;
-use crate::texts::{push_message, push_not_understood, push_refusal, push_word};
 use bch::MESSAGE_WORDS;
 use codes::{encode, take_message};
+use printing::{Answer, put_line};
 use script_text::{Line, parse};
-use std::alloc::{AllocError, Global};
+use std::alloc::AllocError;
 
 impl Session {
     // encode CODE WORD..
-    fn encode_row(
-        &mut self,
-        heap: Global,
-        code: u32,
-        words: &[u32],
-        out: &mut Vec<u8>,
-    ) -> Result<(), AllocError>
+    fn encode_row(&mut self, code: u32, words: &[u32], out: &mut Vec<u8>) -> Result<(), AllocError>
         ensures { OnOk result (Adds (EncodeLine code words.now self.old self.new) out.old.items out.new.items) }
     {
-        let answer = encode(words, code, &mut self.word);
-        self.count(answer.is_ok());
-        match answer {
-            Ok(()) => push_word(self.word.bits(), out),
-            Err(refusal) => push_refusal(heap, refusal, out),
-        }
+        let made = encode(words, code, &mut self.word);
+        self.count(made.is_ok());
+        let answer = match made {
+            Ok(()) => Answer::Word(self.word.bits()),
+            Err(refusal) => Answer::Refused(refusal),
+        };
+        put_line(&answer, out)
     }
 
     // take
-    fn take_row(&mut self, heap: Global, out: &mut Vec<u8>) -> Result<(), AllocError>
+    fn take_row(&mut self, out: &mut Vec<u8>) -> Result<(), AllocError>
         ensures { OnOk result (Adds (TakeLine self.old self.new) out.old.items out.new.items) }
     {
         let mut message = [0; MESSAGE_WORDS];
         let taken = take_message(&self.word, &mut message);
         self.count(taken.is_ok());
-        match taken {
-            Ok(()) => push_message(&message, out),
-            Err(refusal) => push_refusal(heap, refusal, out),
-        }
+        let answer = match taken {
+            Ok(()) => Answer::Message(&message),
+            Err(refusal) => Answer::Refused(refusal),
+        };
+        put_line(&answer, out)
     }
 
-    // Does what a line of a script says, and puts the text that it prints after `out`. The line comes without its newline.
-    pub fn answer(&mut self, heap: Global, line: &[u8], out: &mut Vec<u8>) -> Result<(), AllocError>
+    // Does what a line of a script says, and puts the text that it prints after `out`, on the heap that `out` is on. The line
+    // comes without its newline.
+    pub fn answer(&mut self, line: &[u8], out: &mut Vec<u8>) -> Result<(), AllocError>
         ensures { OnOk result (Adds (Steps line.now self.old self.new) out.old.items out.new.items) }
     {
+        let heap = *out.allocator();
         match parse(heap, line)? {
             Line::Nothing => Ok(()),
-            Line::NotUnderstood => push_not_understood(out),
-            Line::Encode { code, words } => self.encode_row(heap, code, &words, out),
-            Line::Take => self.take_row(heap, out),
+            Line::NotUnderstood => put_line(&Answer::NotUnderstood, out),
+            Line::Encode { code, words } => self.encode_row(code, &words, out),
+            Line::Take => self.take_row(out),
         }
     }
 }

@@ -1,0 +1,9 @@
+use Rattle.std.proofs.Common.{take}
+use Rattle.std.specs.Fmt.{HasWritten, IsPlainFormatter}
+use Rattle.printing.specs.Texts.{words_text}
+use Rattle.printing.proofs.answer.WordsDisplay.fmt.Given as goal
+
+-- the text of the words so far is written
+abbrev pub invariant-loop-word : goal.invariant-loop-word
+invariant-loop-word g l =
+    IsPlainFormatter l.initial.f → HasWritten g.W.Write.write_str_gives l.initial.f (words_text (take l.word-index l.self.0.now)) l.f

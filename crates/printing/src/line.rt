@@ -1,0 +1,14 @@
+// Lines that are put after what a program has to print.
+ghost use Rattle.std.specs.Prelude.{◌≡◌, ◌++◌, OnOk, IfSome};
+ghost use Rattle.printing.specs.Texts.{printed};
+
+use std::alloc::AllocError;
+use std::fmt;
+
+// Puts a text and a newline after `out`, on the heap that `out` is on.
+pub fn put_line<T: fmt::Display>(line: &T, out: &mut Vec<u8>) -> Result<(), AllocError>
+    ensures { IfSome (T.output line.now) (λ text. OnOk result (out.new.items ≡ out.old.items ++ printed text)) }
+{
+    let text = format!(in *out.allocator(); "{line}\n")?;
+    out.extend_from_slice(text.as_bytes())
+}
