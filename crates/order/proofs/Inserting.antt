@@ -1,6 +1,7 @@
 -- What insertion keeps. Assumes nothing.
 use Rattle.std.proofs.Common.{◌≡◌, ℕ, zero, suc, ◌<◌, Bool, true, false, cond, List, [], ◌∷◌, ◌++◌, map, length, get_or, take, refl, ap, arith}
-use Rattle.std.specs.List.{ContainsAt as Has, AllByRecursion}
+use Rattle.std.proofs.lemmas.Grind.{common_steps}
+use Rattle.std.specs.List.{Contains, AllByRecursion}
 use Rattle.std.proofs.ByRecursion.{All-take, All-weaker, All-get_or}
 use Rattle.order.specs.Order.{Pairwise, InOrder, insert}
 
@@ -16,21 +17,17 @@ module _ {E : Type 0} (R : E → E → Type 0) where
   pairwise_at (x ∷ l) zero (suc j) d h k o = All-get_or (R x) l j d (omega arith) o.0
   pairwise_at (x ∷ l) (suc i) (suc j) d h k o = pairwise_at l i j d (omega arith) (omega arith) o.1
 
-has_first : {E : Type 0} (x : E) (l : List E) → Has (x ∷ l) x
-has_first x l = (0, omega arith, λ d. refl)
+first_contained : {E : Type 0} (x : E) (l : List E) → Contains (x ∷ l) x
+first_contained x l = (0, omega arith, refl)
 
-has_next : {E : Type 0} (x y : E) (l : List E) → Has l x → Has (y ∷ l) x
-has_next x y l h = let lt = h.1 in (suc h.0, omega arith, h.2)
+next_contained : {E : Type 0} (x y : E) (l : List E) → Contains l x → Contains (y ∷ l) x
+next_contained x y l (k, lt, e) = (suc k, omega arith, e)
 
 module _ {E : Type 0} (at_most : E → E → Bool) where
   pub length_insert : (x : E) (l : List E) → length (insert at_most x l) ≡ suc (length l)
   unfolding insert
   length_insert x [] = refl
-  length_insert x (y ∷ l) = by (at_most y x) (length_insert x l)
-    where
-      by : (t : Bool) → length (insert at_most x l) ≡ suc (length l) → length (cond t (y ∷ insert at_most x l) (x ∷ y ∷ l)) ≡ suc (suc (length l))
-      by true e = ap suc e
-      by false e = refl
+  length_insert x (y ∷ l) = grind (arith, common_steps, length_insert x l)
 
   pub all_insert : (P : E → Type 0) (x : E) (l : List E) → P x → AllByRecursion P l → AllByRecursion P (insert at_most x l)
   unfolding insert
@@ -51,27 +48,27 @@ module _ {E : Type 0} (at_most : E → E → Bool) where
       by true more = (all_insert (R y) x l from.0 o.0, more)
       by false more = (to, o)
 
-  pub has_new : (x : E) (l : List E) → Has (insert at_most x l) x
+  pub has_new : (x : E) (l : List E) → Contains (insert at_most x l) x
   unfolding insert
-  has_new x [] = has_first x []
+  has_new x [] = first_contained x []
   has_new x (y ∷ l) = by (at_most y x) (has_new x l)
     where
-      by : (t : Bool) → Has (insert at_most x l) x → Has (cond t (y ∷ insert at_most x l) (x ∷ y ∷ l)) x
-      by true h = has_next x y (insert at_most x l) h
-      by false h = has_first x (y ∷ l)
+      by : (t : Bool) → Contains (insert at_most x l) x → Contains (cond t (y ∷ insert at_most x l) (x ∷ y ∷ l)) x
+      by true h = next_contained x y (insert at_most x l) h
+      by false h = first_contained x (y ∷ l)
 
-  pub has_old : (x : E) (l : List E) (p : E) → Has l p → Has (insert at_most x l) p
+  pub has_old : (x : E) (l : List E) (p : E) → Contains l p → Contains (insert at_most x l) p
   unfolding insert
-  has_old x [] p h = let lt = h.1 in absurd (omega arith)
+  has_old x [] p (k, lt, e) = absurd (omega arith)
   has_old x (y ∷ l) p (zero, lt, e) = by (at_most y x)
     where
-      by : (t : Bool) → Has (cond t (y ∷ insert at_most x l) (x ∷ y ∷ l)) p
+      by : (t : Bool) → Contains (cond t (y ∷ insert at_most x l) (x ∷ y ∷ l)) p
       by true = (0, omega arith, e)
       by false = (1, omega arith, e)
   has_old x (y ∷ l) p (suc k, lt, e) = by (at_most y x) (has_old x l p (k, omega arith, e))
     where
-      by : (t : Bool) → Has (insert at_most x l) p → Has (cond t (y ∷ insert at_most x l) (x ∷ y ∷ l)) p
-      by true h = has_next p y (insert at_most x l) h
+      by : (t : Bool) → Contains (insert at_most x l) p → Contains (cond t (y ∷ insert at_most x l) (x ∷ y ∷ l)) p
+      by true h = next_contained p y (insert at_most x l) h
       by false h = (suc (suc k), omega arith, e)
 
   module _ (transitive : (a b c : E) → at_most a b ≡ true → at_most b c ≡ true → at_most a c ≡ true) where
@@ -99,9 +96,4 @@ module _ {E : Type 0} (at_most : E → E → Bool) where
 pub map_insert : {D E : Type 0} (at_most : E → E → Bool) (f : D → E) (x : D) (l : List D) → map f (insert (λ a b. at_most (f a) (f b)) x l) ≡ insert at_most (f x) (map f l)
 unfolding insert
 map_insert at_most f x [] = refl
-map_insert at_most f x (y ∷ l) = by (at_most (f y) (f x)) (map_insert at_most f x l)
-  where
-    by : (t : Bool) → map f (insert (λ a b. at_most (f a) (f b)) x l) ≡ insert at_most (f x) (map f l)
-        → map f (cond t (y ∷ insert (λ a b. at_most (f a) (f b)) x l) (x ∷ y ∷ l)) ≡ cond t (f y ∷ insert at_most (f x) (map f l)) (f x ∷ f y ∷ map f l)
-    by true e = ap (λ k. f y ∷ k) e
-    by false e = refl
+map_insert at_most f x (y ∷ l) = grind (arith, common_steps, map_insert at_most f x l)

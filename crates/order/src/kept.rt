@@ -1,4 +1,4 @@
-// Six single kept elements, in order.
+// Six single kept elements, in order; that they are single, and no array, is a rule of the project.
 ghost use Rattle.std.specs.Prelude.{[], ◌∷◌};
 ghost use Rattle.order.specs.Order.{InOrder};
 ghost use Rattle.order.specs.Slots.{slot_at_most};

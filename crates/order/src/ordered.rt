@@ -1,4 +1,5 @@
-// Elements of one kind, compared by an order.
+// Elements of one kind, compared by an order. No `Ord`: it wants `==` exactly where elements compare both ways, and two lost places
+// of different levels compare both ways and are not the same.
 ghost use Rattle.std.specs.Prelude.{◌≡◌, Bool, true, false};
 
 pub trait Ordered {

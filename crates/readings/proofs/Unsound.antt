@@ -3,7 +3,7 @@ use Rattle.std.proofs.Common.{◌≡◌, ℕ, zero, suc, ◌<◌, Bool, List, []
 use Rattle.readings.specs.Places.{UnsoundAt, SomeUnsound, lowest_unsound, Lowest}
 
 pub sound : {o : Option Bool} {b : Bool} → o ≡ Some b → o ≡ None → ⊥
-sound p q = let z : ◌≡◌ {A = ℕ} 0 1 = cc in omega arith
+sound p q = cc
 
 -- there is one lowest place
 pub lowest_is : (l : List (Option Bool)) (p : ℕ) → Lowest l p → lowest_unsound l ≡ p

@@ -13,7 +13,7 @@ pub struct Magnitude {
 }
 
 impl Magnitude {
-    // The magnitude of a byte's sample.
+    // The magnitude of a byte's sample; by name, since `From<u8>` would read as the magnitude that the byte is.
     pub fn of(byte: u8) -> Magnitude
         ensures value { result ≡ signed_strength byte }
         ensures range { result.value ≤ 128 }

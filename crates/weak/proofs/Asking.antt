@@ -1,5 +1,5 @@
 -- One place more in the slots. Assumes nothing.
-use Rattle.std.proofs.Common.{◌≡◌, ℕ, suc, ◌+◌, ◌*◌, ◌≤◌, Bool, List, [], ◌∷◌, map, take, Some, None, Option, unwrap_or, sym, refl, ap, ◌∙◌, arith}
+use Rattle.std.proofs.Common.{◌≡◌, ℕ, suc, ◌+◌, ◌*◌, ◌≤◌, Bool, List, [], ◌∷◌, map, take, Some, None, Option, refl, arith}
 use Rattle.order.specs.Order.{insert}
 use Rattle.order.specs.Slots.{slot_at_most, slot_count}
 use Rattle.order.proofs.Inserting.{map_insert}
@@ -21,7 +21,7 @@ told None r s h e = absurd (h refl)
 told (Some b) r s h e = e
 
 pub told_value : {S : Type 0} (o : Option Bool) (r : Option S) (s t : S) → (o ≡ None → ⊥) → r ≡ where_sound o s → r ≡ Some t → t ≡ s
-told_value o r s t h e f = ap (λ v. unwrap_or v s) (sym f ∙ told o r s h e)
+told_value o r s t h e f = cc (told o r s h e)
 
 -- places compare in the burst as they do with their strengths, so the slots take a place as the ranking does
 pub place_more : {R S : Type 0} (m : Means R S) (o : ordered.Ghosts S) (reading : R) (i : ℕ) (old new : List (Option (WeakPlace S)))
@@ -33,15 +33,12 @@ place_more m o reading i old new e f =
     let before = weak_at_most o.at_most in
     let element = weak_place (m.strengths reading) in
     let next : suc i ≡ i + 1 = omega arith in
-    f ∙ ap (λ l. take slot_count (insert (slot_at_most before) (Some (element i)) l)) e
-    ∙ padded_insert before slot_count (element i) (map element (ranked b i))
-    ∙ ap (padded slot_count) (sym (map_insert before element i (ranked b i)))
-    ∙ ap (λ n. padded slot_count (map element (ranked b n))) next
+    cc (next, padded_insert before slot_count (element i) (map element (ranked b i)), map_insert before element i (ranked b i))
 
 -- the places of places with their strengths
 pub places_of : {S : Type 0} (strengths : ℕ → S) (l : List ℕ) → map place_in (map (λ p. Some (weak_place strengths p)) l) ≡ l
 places_of strengths [] = refl
-places_of strengths (p ∷ l) = ap (λ k. p ∷ k) (places_of strengths l)
+places_of strengths (p ∷ l) = cc (places_of strengths l)
 
 pub count_fits : (k : Code) → 2 * code_number k ≤ slot_count
 count_fits Two = omega arith

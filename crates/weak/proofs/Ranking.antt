@@ -1,8 +1,9 @@
 -- All places of a burst in turn. Assumes nothing.
 use Rattle.std.proofs.Common.{◌≡◌, ℕ, zero, suc, ◌<◌, true, ◌≢◌, List, [], length, get_or, refl, ap, ◌∙◌, subst, ⊎_elim, arith}
-use Rattle.std.specs.List.{ContainsAt as Has, AllByRecursion}
+use Rattle.std.specs.List.{Contains, AllByRecursion}
 use Rattle.std.proofs.ByRecursion.{All-weaker, All-get_or}
 use Rattle.std.proofs.lemmas.Bool.{cases_lt}
+use Rattle.std.proofs.lemmas.List.{get_or_default}
 use Rattle.order.specs.Order.{Pairwise, InOrder, insert}
 use Rattle.order.proofs.Inserting.{length_insert, all_insert, pairwise_insert, pairwise_at, has_new, has_old, in_order_insert}
 use Rattle.readings.specs.Burst.{Burst, Lawful}
@@ -31,9 +32,9 @@ ranked_differ b (suc m) =
     (All-weaker (λ p. p < m) (λ p. p ≢ m) (λ p h. omega arith) (ranked b m) below)
     (ranked_differ b m)
 
-pub ranked_has : (b : Burst) (m p : ℕ) → p < m → Has (ranked b m) p
+pub ranked_has : (b : Burst) (m p : ℕ) → p < m → Contains (ranked b m) p
 ranked_has b zero p h = absurd (omega arith)
-ranked_has b (suc m) p h = ⊎_elim (λ low. has_old (no_later b) m (ranked b m) p (ranked_has b m p low)) (λ high. let same : m ≡ p = omega arith in subst (Has (ranked b (suc m))) same (has_new (no_later b) m (ranked b m))) (cases_lt p m)
+ranked_has b (suc m) p h = ⊎_elim (λ low. has_old (no_later b) m (ranked b m) p (ranked_has b m p low)) (λ high. let same : m ≡ p = omega arith in subst (Contains (ranked b (suc m))) same (has_new (no_later b) m (ranked b m))) (cases_lt p m)
 
 module _ (b : Burst) (lawful : Lawful b) where
   ranked_in_order : (m : ℕ) → InOrder (no_later b) (ranked b m)
@@ -51,5 +52,5 @@ module _ (b : Burst) (lawful : Lawful b) where
     count = length_ranked b m;
     inside = λ i h. rw long (All-get_or (λ p. p < m) (ranked b m) i 0 (omega (arith, length_ranked b m)) (ranked_below b m));
     rising = rising m;
-    others = λ p h none. let has = ranked_has b m p (omega arith) in absurd (none has.0 (omega (arith, has.1, length_ranked b m)) (has.2 0));
+    others = λ p h none. let has = ranked_has b m p (omega arith) in absurd (none has.0 (omega (arith, has.1, length_ranked b m)) (get_or_default (ranked b m) has.0 0 p has.1 ∙ has.2));
   }
