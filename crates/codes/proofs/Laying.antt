@@ -1,7 +1,8 @@
 -- What one turn of laying a message keeps. Assumes nothing.
-use Rattle.std.proofs.Common.{◌≡◌, ℕ, ◌+◌, ◌-◌, ◌*◌, ◌<◌, ◌≤◌, Bool, false, ◌⊎◌, List, ◌++◌, length, get_or, take, drop, sym, ap, ◌∙◌, inl, inr, arith, length-drop, length-append}
+use Rattle.std.proofs.Common.{rules, ◌≡◌, ℕ, ◌+◌, ◌-◌, ◌*◌, ◌<◌, ◌≤◌, Bool, false, ◌⊎◌, List, ◌++◌, length, get_or, take, drop, sym, ap, ◌∙◌, inl, inr, arith, length-drop, length-append}
 use Rattle.std.proofs.lemmas.List.{get_or_append_left, get_or-append_right, get_or-drop, get_or-take, length-take-le}
 use Rattle.std.proofs.lemmas.Bool.{cases_lt}
+use Rattle.std.proofs.lemmas.List.{places}
 use borrow.Rule.Slice.PartMut.{put_mid, mid_of}
 use Rattle.galois.specs.Polynomials.{bits, bit}
 use Rattle.galois.proofs.Words.{length_bits, get_or_bits}
@@ -10,25 +11,16 @@ use Rattle.bch.specs.Messages.{word_bits}
 -- a part of a list written over, place by place
 module _ (a k : ℕ) (xs ys : List Bool) (room : a + k ≤ length xs) (count : length ys ≡ k) where
   put_below : (j : ℕ) → j < a → get_or (put_mid a k xs ys) j false ≡ get_or xs j false
-  put_below j h = get_or_append_left (take a xs) _ false j (omega (arith, length-take-le a xs)) ∙ get_or-take a xs j false h
+  put_below j h = search (rules, places)
 
   put_inside : (j : ℕ) → j < k → get_or (put_mid a k xs ys) (a + j) false ≡ get_or ys j false
-  put_inside j h =
-      let here : a + j - a ≡ j = omega arith in
-      get_or-append_right (take a xs) _ a (a + j) false (length-take-le a xs (omega arith)) (omega arith)
-      ∙ ap (λ z. get_or (ys ++ drop k (drop a xs)) z false) here
-      ∙ get_or_append_left ys _ false j (omega arith)
+  put_inside j h = search (rules, places)
 
   put_above : (j : ℕ) → a + k ≤ j → get_or (put_mid a k xs ys) j false ≡ get_or xs j false
-  put_above j h =
-      let here : a + (k + (j - a - k)) ≡ j = omega arith in
-      get_or-append_right (take a xs) _ a j false (length-take-le a xs (omega arith)) (omega arith)
-      ∙ get_or-append_right ys _ k (j - a) false count (omega arith)
-      ∙ get_or-drop k (drop a xs) (j - a - k) false ∙ get_or-drop a xs (k + (j - a - k)) false
-      ∙ ap (λ z. get_or xs z false) here
+  put_above j h = search (rules, places)
 
   put_length : length (put_mid a k xs ys) ≡ length xs
-  put_length = length-append (take a xs) _ ∙ omega (arith, length-take-le a xs, length-append ys (drop k (drop a xs)), length-drop k (drop a xs), length-drop a xs)
+  put_length = search (rules, places)
 
 -- the first n of the words m written into the places from `from` on, and no other place changed
 pub record LaidTo (m : List ℕ) (from n : ℕ) (old new : List Bool) : Type 0 where

@@ -66,11 +66,8 @@ pub fn logarithm(a: Element) -> Option<u8>
 pub fn product(a: Element, b: Element) -> Element
     ensures { result ≡ bytes.times a b }
 {
-    let Some(i) = logarithm(a) else {
-        return 0;
-    };
-    let Some(j) = logarithm(b) else {
-        return 0;
-    };
-    power(u32::from(i) + u32::from(j))
+    match (logarithm(a), logarithm(b)) {
+        (Some(i), Some(j)) => power(u32::from(i) + u32::from(j)),
+        _ => 0,
+    }
 }

@@ -40,7 +40,6 @@ impl Sums {
     }
 
     // Adds what a one at the place adds to each; a second time takes it away again.
-    #[tactic(auto, unfolding(field::specs::Bytes::bytes))]
     pub fn flip(&mut self, place: usize)
         requires { place < places }
         ensures { Flips place self.old self.new }
