@@ -38,8 +38,7 @@ impl fmt::Display for HexBytes<'_> {
 
     #[tactic(auto, unfolding(crate::specs::Numerals::bytes_text))]
     fn fmt<W: fmt::Write>(&self, f: &mut fmt::Formatter<W>) -> fmt::Result {
-        for b in self.0 {
-            let byte = *b;
+        for &byte in self.0 {
             write!(f, "{byte:02X}")?;
         }
         Ok(())

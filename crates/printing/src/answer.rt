@@ -33,8 +33,8 @@ impl fmt::Display for Words<'_> {
 
     #[tactic(auto, unfolding(crate::specs::Texts::words_text))]
     fn fmt<W: fmt::Write>(&self, f: &mut fmt::Formatter<W>) -> fmt::Result {
-        for word in self.0 {
-            write!(f, " {}", HexWord::new(*word))?;
+        for &word in self.0 {
+            write!(f, " {}", HexWord::new(word))?;
         }
         Ok(())
     }

@@ -2,36 +2,28 @@
 // A record that is no message is passed over, and a last one that is cut short is not used.
 #![tactic(auto)]
 
-ghost use Rattle.std.specs.Prelude.{◌≤◌, length, IfOk};
-
 use bch::PLACES;
 use std::io;
-use std::io::{BufReader, BufWriter, Read, Write};
+use std::io::{BufReader, BufWriter, ErrorKind, Read, Write};
 use wire::{RECORD_BYTES, send_record};
 
-// Fills the buffer, or takes what is left of the input; returns how many bytes came.
-fn fill<R: Read>(input: &mut R, buf: &mut [u8]) -> io::Result<usize>
-    ensures { IfOk result (λ n. n ≤ length buf.old) }
-{
-    let mut at = 0;
-    while at < buf.len() {
-        let n = input.read(&mut buf[at..])?;
-        if n == 0 {
-            break;
-        }
-        at += n;
+// The next record of the input, or `None` where no whole one is left.
+fn next_record<R: Read>(input: &mut R) -> io::Result<Option<[u8; RECORD_BYTES]>> {
+    let mut record = [0; RECORD_BYTES];
+    match input.read_exact(&mut record) {
+        Ok(()) => Ok(Some(record)),
+        Err(e) if e.kind() == ErrorKind::UnexpectedEof => Ok(None),
+        Err(e) => Err(e),
     }
-    Ok(at)
 }
 
 // One record after the other, in constant memory. Nothing says that an input ends, so the records are counted.
 fn send_all<R: Read, W: Write>(input: &mut R, output: &mut W) -> io::Result<()> {
-    let mut record = [0; RECORD_BYTES];
     let mut samples = [0; PLACES];
     for _ in 0..u64::MAX {
-        if fill(input, &mut record)? < RECORD_BYTES {
+        let Some(record) = next_record(input)? else {
             break;
-        }
+        };
         if send_record(&record, &mut samples).is_ok() {
             output.write_all(&samples)?;
         }

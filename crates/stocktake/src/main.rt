@@ -18,6 +18,8 @@ fn without_newline(line: &[u8]) -> &[u8]
 }
 
 // Answers each line of the input. The memory grows with the longest line, and not with the script.
+// Not an iterator of lines, which would borrow the input: its buffer is looked at before each line. Nothing says that an input
+// ends, so the lines are counted.
 fn replay(
     heap: Global,
     session: &mut Session,

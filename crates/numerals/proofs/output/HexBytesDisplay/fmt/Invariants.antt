@@ -4,6 +4,6 @@ use Rattle.numerals.specs.Numerals.{bytes_text}
 use Rattle.numerals.proofs.output.HexBytesDisplay.fmt.Given as goal
 
 -- the text of the bytes so far is written
-abbrev pub invariant-loop-b : goal.invariant-loop-b
-invariant-loop-b g l =
-    IsPlainFormatter l.initial.f → HasWritten g.W.Write.write_str_gives l.initial.f (bytes_text (take l.b-index l.self.0.now)) l.f
+abbrev pub invariant-loop-byte : goal.invariant-loop-byte
+invariant-loop-byte g l =
+    IsPlainFormatter l.initial.f → HasWritten g.W.Write.write_str_gives l.initial.f (bytes_text (take l.byte-index l.self.0.now)) l.f
