@@ -1,0 +1,37 @@
+// The fields of a text, one after the other.
+ghost use Rattle.std.specs.Prelude.{◌≡◌, map};
+ghost use Rattle.std.specs.Iterator.{YieldsFirstRef, item_count};
+ghost use Rattle.std.specs.Option.{option_map};
+ghost use Rattle.line_fields.specs.Fields.{fields};
+ghost use Rattle.line_fields.specs.Left.{exactly, left};
+
+use crate::split::split_field;
+
+// The fields of a text that are left. There is one in an empty text, and none where no space follows a field.
+#[derive(Clone, Copy)]
+pub struct Fields<'a> {
+    rest: Option<&'a [u8]>,
+}
+
+impl<'a> Fields<'a> {
+    // All fields of a text.
+    pub fn new(text: &'a [u8]) -> Fields<'a>
+        ensures { left result ≡ fields text.now }
+    {
+        Fields { rest: Some(text) }
+    }
+}
+
+impl<'a> Iterator for Fields<'a> {
+    type Item = &'a [u8];
+
+    ghost next_gives = { YieldsFirstRef left };
+
+    ghost remaining = { item_count left };
+
+    fn next(&mut self) -> Option<&'a [u8]> {
+        let (field, rest) = split_field(self.rest?);
+        self.rest = rest;
+        Some(field)
+    }
+}
