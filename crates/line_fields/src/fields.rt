@@ -1,9 +1,9 @@
 // The fields of a text, one after the other.
-ghost use Rattle.std.specs.Prelude.{◌≡◌, map};
+ghost use Rattle.std.specs.Prelude.{◌≡◌};
 ghost use Rattle.std.specs.Iterator.{YieldsFirstRef, item_count};
 ghost use Rattle.std.specs.Option.{option_map};
-ghost use Rattle.line_fields.specs.Fields.{fields};
-ghost use Rattle.line_fields.specs.Left.{exactly, left};
+ghost use Rattle.line_fields.specs.Fields.{fields, one_field};
+ghost use Rattle.line_fields.specs.Left.{left};
 
 use crate::split::split_field;
 
@@ -19,6 +19,17 @@ impl<'a> Fields<'a> {
         ensures { left result ≡ fields text.now }
     {
         Fields { rest: Some(text) }
+    }
+
+    // The field that is left, if it is the only one.
+    pub fn only(mut self) -> Option<&'a [u8]>
+        ensures { option_map (λ f. f.now) result ≡ one_field (left self.entry) }
+    {
+        let field = self.next()?;
+        match self.next() {
+            Some(_) => None,
+            None => Some(field),
+        }
     }
 }
 
