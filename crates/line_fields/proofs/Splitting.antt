@@ -1,7 +1,7 @@
 -- The first field of a text, by where its first space is. Assumes nothing.
-use Rattle.std.proofs.Common.{◌≡◌, ℕ, zero, suc, ◌+◌, ◌<◌, eqb, List, [], ◌∷◌, ◌++◌, length, get_or, take, drop, Some, None, Option, sym, refl, ap, ◌∙◌, subst, add-one, arith, length-append, Bor}
+use Rattle.std.proofs.Common.{◌≡◌, ℕ, zero, suc, ◌+◌, ◌-◌, ◌<◌, eqb, List, [], ◌∷◌, ◌++◌, length, get_or, take, drop, Some, None, Option, sym, refl, ap, ◌∙◌, subst, add-one, arith, length-append, Bor}
 use Rattle.std.specs.Option.{option_map}
-use Rattle.std.proofs.lemmas.List.{take-append-drop, drop_more, length-take-le, get_or-take}
+use Rattle.std.proofs.lemmas.List.{take_rest, take-append-drop, drop_more, length-take-le, get_or-take}
 use Rattle.std.proofs.lemmas.Bool.{cond-true, cond-false, cond_both, eq-eqb, ne_eqb}
 use Rattle.line_fields.specs.Fields.{Solid, begun, fields, fields_left, spaced, one_field, two_fields, three_fields}
 
@@ -24,19 +24,9 @@ no_more (b ∷ bs) no_space =
     cond-false (eqb b 32) _ _ (ne_eqb b 32 (no_space 0 (omega arith)))
     ∙ ap (begun b) (no_more bs (λ k l. no_space (suc k) (omega arith)))
 
-pub split_fields : (bs : List ℕ) (i : ℕ) → i < length bs → NoSpace bs i → get_or bs i 0 ≡ 32 → fields bs ≡ take i bs ∷ fields (drop (i + 1) bs)
-split_fields bs i h no_space e = rw add-one (at_space bs i h no_space e)
+pub split_fields : (bs : List ℕ) (i : ℕ) → i < length bs → NoSpace bs i → get_or bs i 0 ≡ 32 → fields bs ≡ take i bs ∷ fields (take (length bs - (i + 1)) (drop (i + 1) bs))
+split_fields bs i h no_space e = simp take_rest (rw add-one (at_space bs i h no_space e))
 
 pub split_parts : (bs : List ℕ) (i : ℕ) → i < length bs → get_or bs i 0 ≡ 32 → bs ≡ take i bs ++ 32 ∷ drop (i + 1) bs
 split_parts bs i h e =
     sym (take-append-drop i bs) ∙ ap (λ l. take i bs ++ l) (drop_more bs i 0 h ∙ ap (λ b. b ∷ drop (i + 1) bs) e)
-
-begun_some : (b : ℕ) (fs : List (List ℕ)) → (f : List ℕ) × ((rest : List (List ℕ)) × (begun b fs ≡ f ∷ rest))
-begun_some b [] = (b ∷ [], ([], refl))
-begun_some b (f ∷ fs) = (b ∷ f, (fs, refl))
-
--- a text has at least one field
-pub some_field : (bs : List ℕ) → (f : List ℕ) × ((rest : List (List ℕ)) × (fields bs ≡ f ∷ rest))
-unfolding fields
-some_field [] = ([], ([], refl))
-some_field (b ∷ bs) = cond_both (eqb b 32) _ _ (λ fs. (f : List ℕ) × ((rest : List (List ℕ)) × (fs ≡ f ∷ rest))) (λ e. ([], (fields bs, refl))) (λ e. begun_some b (fields bs))

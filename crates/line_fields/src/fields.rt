@@ -15,6 +15,7 @@ pub struct Fields<'a> {
 
 impl<'a> Fields<'a> {
     // All fields of a text.
+    #[tactic(auto, unfolding(crate::specs::Fields::fields_left))]
     pub fn new(text: &'a [u8]) -> Fields<'a>
         ensures { left result ≡ fields text.now }
     {
@@ -22,6 +23,7 @@ impl<'a> Fields<'a> {
     }
 
     // The field that is left, if it is the only one.
+    #[tactic(auto, unfolding(crate::specs::Fields::one_field))]
     pub fn only(mut self) -> Option<&'a [u8]>
         ensures { option_map (λ f. f.now) result ≡ one_field (left self.entry) }
     {
@@ -40,6 +42,7 @@ impl<'a> Iterator for Fields<'a> {
 
     ghost remaining = { item_count left };
 
+    #[tactic(auto, unfolding(crate::specs::Fields::fields_left))]
     fn next(&mut self) -> Option<&'a [u8]> {
         let (field, rest) = split_field(self.rest?);
         self.rest = rest;

@@ -6,6 +6,7 @@ ghost use Rattle.line_fields.specs.Fields.{Solid, fields, fields_left, spaced, w
 const SPACE: u8 = b' ';
 
 // A line without the carriage return at its end, if it has one.
+#[tactic(auto, using(crate::proofs::Ending::stripped))]
 pub fn without_return(line: &[u8]) -> &[u8]
     ensures { result.now ≡ without_return line.now }
 {
@@ -13,6 +14,11 @@ pub fn without_return(line: &[u8]) -> &[u8]
 }
 
 // The first field of a text, and what follows its space, if it has one.
+#[tactic(
+    auto,
+    using(crate::proofs::Splitting::split_fields, crate::proofs::Splitting::split_parts, crate::proofs::Splitting::no_more),
+    unfolding(crate::specs::Fields::fields_left, crate::specs::Fields::spaced)
+)]
 pub fn split_field(text: &[u8]) -> (&[u8], Option<&[u8]>)
     ensures parts { text.now ≡ result.0.now ++ spaced result.1 }
     ensures solid { Solid result.0.now }
