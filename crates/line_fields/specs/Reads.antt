@@ -1,5 +1,5 @@
 -- What reading a text gives, beside what the text says. Assumes nothing.
-use Rattle.std.specs.Prelude.{◌≡◌, Some, None, Ok, Err, Option, Result, ⊤}
+use Rattle.std.specs.Prelude.{◌≡◌, Some, None, Ok, Err, Option, Result}
 use Rattle.line_fields.specs.declared.unread.Unread.{Unread}
 use Rattle.line_fields.specs.declared.unread.Unread.TheVariants.{NotUnderstood, OutOfMemory}
 

@@ -5,4 +5,4 @@ mod input;
 mod output;
 
 pub use input::{code_number, hex_bytes, hex_word};
-pub use output::{push_bytes_text, push_word_text};
+pub use output::{byte_text, hex_text, push_bytes_text, push_word_text};

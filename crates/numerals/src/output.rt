@@ -13,7 +13,7 @@ fn last_digit(x: u32) -> u8
 }
 
 // A byte as two upper-case hex digits.
-fn byte_text(b: u8) -> [u8; 2]
+pub fn byte_text(b: u8) -> [u8; 2]
     ensures { result ≡ hex_text 2 b }
 {
     let x = u32::from(b);
@@ -21,7 +21,7 @@ fn byte_text(b: u8) -> [u8; 2]
 }
 
 // A word as eight upper-case hex digits, high digit first.
-fn hex_text(w: u32) -> [u8; 8]
+pub fn hex_text(w: u32) -> [u8; 8]
     ensures text { result ≡ hex_text 8 w }
     ensures reads_back { hex_word result ≡ Some w }
 {
