@@ -1,8 +1,8 @@
 -- What one more digit does to the number that is read, and one more byte to the bytes. Assumes nothing.
-use Rattle.std.proofs.Common.{◌≡◌, ◌≢◌, ℕ, suc, min, ◌+◌, ◌*◌, ◌^◌, ◌<◌, ◌≤◌, List, [], ◌∷◌, ◌++◌, length, get_or, drop, Some, None, Option, sym, refl, true, cond, ap, ◌∙◌, append_assoc, append-nil, mul-le-mul_right, add-mul, pow-suc, mul_assoc, add-one, arith}
-use native.Mathlib.Nat.{pow-zero, pow-le-pow_left, pow-le-pow_right}
+use Rattle.std.proofs.Common.{◌≡◌, ◌≢◌, ℕ, suc, min, ◌+◌, ◌*◌, ◌^◌, ◌<◌, ◌≤◌, List, [], ◌∷◌, ◌++◌, length, get_or, drop, Some, None, Option, sym, refl, true, cond, ap, ◌∙◌, append_assoc, append-nil, mul-le-mul_left, mul-le-mul_right, add-mul, pow-suc, mul_assoc, arith}
+use native.Mathlib.Nat.{pow-zero, pow-le-pow_right}
 use Rattle.std.specs.Option.{option_map}
-use Rattle.std.proofs.lemmas.List.{at_drop_more}
+use Rattle.std.proofs.lemmas.List.{at_drop_more, at_drop_all}
 use Rattle.std.proofs.lemmas.Bool.{cond_both, cond-true, cond-false}
 use Rattle.std.proofs.lemmas.Bool.Decides.{nat_tests}
 use Rattle.std.proofs.lemmas.Option.{same_Some}
@@ -15,23 +15,46 @@ then_below (Some y) bound x e = grind (arith, nat_tests)
 digit_below : (base b d : ℕ) → Some d ≡ digit_in base b → d < base
 digit_below base b d e = then_below (hex_digit b) base d (sym e)
 
-room : (base n d i : ℕ) → n < base ^ i → d < base → n * base + d < base ^ (i + 1)
-room base n d i h k =
-    let more : n + 1 ≤ base ^ i = omega arith in
-    rw (add-one, pow-suc) (omega (arith, mul-le-mul_right base more, add-mul n 1 base))
+-- the number does not get smaller with more digits
+least_after : (base n m : ℕ) (o : Option ℕ) (f : ℕ → Option ℕ) → ((d : ℕ) → o ≡ Some d → d < base) → ((d : ℕ) → o ≡ Some d → f d ≡ Some m → n * base + d ≤ m) → and_then o f ≡ Some m → n ≤ m
+least_after base n m None f small later e = absurd (grind arith)
+least_after base n m (Some d) f small later e =
+    let some : 1 ≤ base = omega (arith, small d refl) in
+    omega (arith, later d refl e, mul-le-mul_left n some)
 
-fits : (base m i : ℕ) → base ≤ 16 → i < 10 → m < base ^ (i + 1) → m < 2 ^ 64
-fits base m i b h l = omega (arith, pow-le-pow_left b (i + 1), pow-le-pow_right {n = 16} (omega arith) {i = i + 1} {j = 10} (omega arith))
+numeral_least : (base n m : ℕ) (bs : List ℕ) → numeral_after base n bs ≡ Some m → n ≤ m
+numeral_least base n m [] e = omega (arith, same_Some n m e)
+numeral_least base n m (b ∷ bs) e =
+    least_after base n m (digit_in base b) (λ d. numeral_after base (n * base + d) bs) (λ d is. digit_below base b d (sym is)) (λ d is later. numeral_least base (n * base + d) m bs later) e
 
--- with one more digit the number stays below the next power of the base
-pub small : (base n d b i : ℕ) → base ≤ 16 → i < 10 → n < base ^ i → Some d ≡ digit_in base b → (n * base + d < base ^ (i + 1)) × (n * base + d < 2 ^ 64)
-small base n d b i h l k e =
-    let next = room base n d i k (digit_below base b d e) in
-    (next, fits base (n * base + d) i h l next)
+not_below : (o : Option ℕ) (bound n : ℕ) → ((m : ℕ) → o ≡ Some m → n ≤ m) → bound ≤ n → and_then o (below bound) ≡ None
+not_below None bound n least h = refl
+not_below (Some m) bound n least h = let l = least m refl in grind (arith, nat_tests)
 
-pub one_more : (base n d : ℕ) (bs : List ℕ) (i : ℕ) → i < length bs → Some d ≡ digit_in base (get_or bs i 0) → numeral_after base n (drop i bs) ≡ numeral_after base (n * base + d) (drop (i + 1) bs)
-one_more base n d bs i h e =
-    at_drop_more (numeral_after base n) bs i 0 h ∙ ap (λ o. and_then o (λ d. numeral_after base (n * base + d) (drop (i + 1) bs))) (sym e)
+-- what a byte does to the number that is read: with a digit there is one more, and without one, or past the bound, none
+pub one_more : (bound base n d : ℕ) (bs : List ℕ) (i : ℕ) → i < length bs → Some d ≡ digit_in base (get_or bs i 0) → and_then (numeral_after base n (drop i bs)) (below bound) ≡ and_then (numeral_after base (n * base + d) (drop (i + 1) bs)) (below bound)
+one_more bound base n d bs i h e =
+    at_drop_more (λ l. and_then (numeral_after base n l) (below bound)) bs i 0 h ∙ ap (λ o. and_then (and_then o (λ d. numeral_after base (n * base + d) (drop (i + 1) bs))) (below bound)) (sym e)
+
+pub no_digit : (bound base n : ℕ) (bs : List ℕ) (i : ℕ) → i < length bs → None ≡ digit_in base (get_or bs i 0) → and_then (numeral_after base n (drop i bs)) (below bound) ≡ None
+no_digit bound base n bs i h e =
+    at_drop_more (λ l. and_then (numeral_after base n l) (below bound)) bs i 0 h ∙ ap (λ o. and_then (and_then o (λ d. numeral_after base (n * base + d) (drop (i + 1) bs))) (below bound)) (sym e)
+
+pub no_sum : (bound base n d : ℕ) (bs : List ℕ) (i : ℕ) → i < length bs → Some d ≡ digit_in base (get_or bs i 0) → bound ≤ n * base + d → and_then (numeral_after base n (drop i bs)) (below bound) ≡ None
+no_sum bound base n d bs i h e l =
+    one_more bound base n d bs i h e ∙ not_below (numeral_after base (n * base + d) (drop (i + 1) bs)) bound (n * base + d) (λ m. numeral_least base (n * base + d) m (drop (i + 1) bs)) l
+
+by_digit : (o : Option ℕ) (P : Type 0) → (None ≡ o → P) → ((d : ℕ) → Some d ≡ o → P) → P
+by_digit None P none some = none refl
+by_digit (Some d) P none some = some d refl
+
+pub no_product : (bound base n : ℕ) (bs : List ℕ) (i : ℕ) → i < length bs → bound ≤ n * base → and_then (numeral_after base n (drop i bs)) (below bound) ≡ None
+no_product bound base n bs i h l =
+    by_digit (digit_in base (get_or bs i 0)) _ (no_digit bound base n bs i h) (λ d e. no_sum bound base n d bs i h e (omega arith))
+
+pub all_read : (bound base n : ℕ) (bs : List ℕ) (i : ℕ) → length bs ≤ i → n < bound → and_then (numeral_after base n (drop i bs)) (below bound) ≡ Some n
+all_read bound base n bs i h l =
+    at_drop_all (λ l. and_then (numeral_after base n l) (below bound)) bs i h ∙ grind (arith, nat_tests)
 
 -- digits write a number below the power of the base
 bound_after : (base n m k : ℕ) (o : Option ℕ) (f : ℕ → Option ℕ) → ((d : ℕ) → o ≡ Some d → d < base) → ((d : ℕ) → f d ≡ Some m → m < (n * base + d + 1) * base ^ k) → and_then o f ≡ Some m → m < (n + 1) * base ^ suc k

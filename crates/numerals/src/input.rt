@@ -1,7 +1,7 @@
 // Numbers, words and bytes as they are written in a script.
-ghost use Rattle.std.specs.Prelude.{◌≡◌, ◌≤◌, length, vec_items};
+ghost use Rattle.std.specs.Prelude.{◌≡◌, ◌^◌, length, vec_items};
 ghost use Rattle.line_fields.specs.Reads.{Reads};
-ghost use Rattle.numerals.specs.Numerals.{hex_digit, digit_in, numeral, short_numeral, hex_word, code_text, hex_byte, hex_pairs, hex_bytes};
+ghost use Rattle.numerals.specs.Numerals.{and_then, below, hex_digit, digit_in, numeral, short_numeral, hex_word, code_text, hex_byte, hex_pairs, hex_bytes};
 
 use line_fields::Unread;
 use std::alloc::Global;
@@ -18,35 +18,33 @@ fn hex_digit(b: u8) -> Option<u32>
 }
 
 // The value of a digit in a base up to 16.
-fn digit_in(base: u64, b: u8) -> Option<u64>
+fn digit_in(base: u32, b: u8) -> Option<u32>
     ensures { result ≡ digit_in base b }
 {
-    hex_digit(b).map(u64::from).filter(|d| *d < base)
+    hex_digit(b).filter(|d| *d < base)
 }
 
-// The number that a short row of digits writes, high digit first.
-#[tactic(auto, using(crate::proofs::Reading::small, crate::proofs::Reading::one_more))]
-fn number(base: u64, field: &[u8]) -> Option<u64>
-    requires { (base ≤ 16) × (length field.now ≤ 10) }
-    ensures { result ≡ numeral base field.now }
+// The number that digits write, high digit first, if it is below 2^32.
+#[tactic(auto, using(crate::proofs::Reading::one_more, crate::proofs::Reading::no_digit, crate::proofs::Reading::no_product, crate::proofs::Reading::no_sum, crate::proofs::Reading::all_read))]
+fn number(base: u32, field: &[u8]) -> Option<u32>
+    ensures { result ≡ and_then (numeral base field.now) (below (2 ^ 32)) }
 {
-    let mut n: u64 = 0;
+    let mut n = 0u32;
     for b in field {
-        let d = digit_in(base, *b)?;
-        n = n * base + d;
+        n = n.checked_mul(base)?.checked_add(digit_in(base, *b)?)?;
     }
     Some(n)
 }
 
-// The number that one to `most` digits write, if it is below 2^32.
-fn short_number(base: u64, most: usize, field: &[u8]) -> Option<u32>
-    requires { (base ≤ 16) × (most ≤ 10) }
+// The same of one to `most` digits.
+fn short_number(base: u32, most: usize, field: &[u8]) -> Option<u32>
     ensures { result ≡ short_numeral base most field.now }
 {
     if field.is_empty() || field.len() > most {
-        return None;
+        None
+    } else {
+        number(base, field)
     }
-    u32::try_from(number(base, field)?).ok()
 }
 
 // A field that is a WORD: one to eight hex digits.
