@@ -29,3 +29,6 @@ split_fields bs i h no_space e = simp take_rest (rw add-one (at_space bs i h no_
 pub split_parts : (bs : List ℕ) (i : ℕ) → i < length bs → get_or bs i 0 ≡ 32 → bs ≡ take i bs ++ 32 ∷ drop (i + 1) bs
 split_parts bs i h e =
     sym (take-append-drop i bs) ∙ ap (λ l. take i bs ++ l) (drop_more bs i 0 h ∙ ap (λ b. b ∷ drop (i + 1) bs) e)
+
+-- what the first space, if there is one, says of the fields
+pub ruleset splits = (split_fields, split_parts, no_more)

@@ -14,7 +14,7 @@ pub fn without_return(line: &[u8]) -> &[u8]
 }
 
 // The first field of a text, and what follows its space, if it has one.
-#[tactic(auto, using(crate::proofs::Splitting::split_fields, crate::proofs::Splitting::split_parts, crate::proofs::Splitting::no_more), unfolding(crate::specs::Fields::fields_left, crate::specs::Fields::spaced))]
+#[tactic(auto, using(crate::proofs::Splitting::splits), unfolding(crate::specs::Fields::fields_left, crate::specs::Fields::spaced))]
 pub fn split_field(text: &[u8]) -> (&[u8], Option<&[u8]>)
     ensures parts { text.now ≡ result.0.now ++ spaced result.1 }
     ensures solid { Solid result.0.now }

@@ -56,6 +56,9 @@ pub all_read : (bound base n : ℕ) (bs : List ℕ) (i : ℕ) → length bs ≤ 
 all_read bound base n bs i h l =
     at_drop_all (λ l. and_then (numeral_after base n l) (below bound)) bs i h ∙ grind (arith, nat_tests)
 
+-- the steps of a loop that reads a number
+pub ruleset digit_steps = (one_more, no_digit, no_sum, no_product, all_read)
+
 -- digits write a number below the power of the base
 bound_after : (base n m k : ℕ) (o : Option ℕ) (f : ℕ → Option ℕ) → ((d : ℕ) → o ≡ Some d → d < base) → ((d : ℕ) → f d ≡ Some m → m < (n * base + d + 1) * base ^ k) → and_then o f ≡ Some m → m < (n + 1) * base ^ suc k
 bound_after base n m k None f small later e = absurd (grind arith)

@@ -25,7 +25,7 @@ fn digit_in(base: u32, b: u8) -> Option<u32>
 }
 
 // The number that digits write, high digit first, if it is below 2^32.
-#[tactic(auto, using(crate::proofs::Reading::one_more, crate::proofs::Reading::no_digit, crate::proofs::Reading::no_product, crate::proofs::Reading::no_sum, crate::proofs::Reading::all_read))]
+#[tactic(auto, using(crate::proofs::Reading::digit_steps))]
 fn number(base: u32, field: &[u8]) -> Option<u32>
     ensures { result ≡ and_then (numeral base field.now) (below (2 ^ 32)) }
 {
