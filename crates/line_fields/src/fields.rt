@@ -2,7 +2,7 @@
 ghost use Rattle.std.specs.Prelude.{◌≡◌};
 ghost use Rattle.std.specs.Iterator.{YieldsFirstRef, item_count};
 ghost use Rattle.std.specs.Option.{option_map};
-ghost use Rattle.line_fields.specs.Fields.{fields, one_field};
+ghost use Rattle.line_fields.specs.Fields.{fields, one_field, two_fields, three_fields};
 ghost use Rattle.line_fields.specs.Left.{left};
 
 use crate::split::split_field;
@@ -22,9 +22,10 @@ impl<'a> Fields<'a> {
         Fields { rest: Some(text) }
     }
 
-    // The field that is left, if it is the only one.
+    // The field that is left, if it is exactly one.
+    // One, two and three stay three: the borrow checker does not cover an array of references whose length is a const parameter.
     #[tactic(auto, unfolding(crate::specs::Fields::one_field))]
-    pub fn only(mut self) -> Option<&'a [u8]>
+    pub fn one(mut self) -> Option<&'a [u8]>
         ensures { option_map (λ f. f.now) result ≡ one_field (left self.entry) }
     {
         let field = self.next()?;
@@ -32,6 +33,26 @@ impl<'a> Fields<'a> {
             Some(_) => None,
             None => Some(field),
         }
+    }
+
+    // The two fields that are left, if they are exactly two.
+    #[tactic(auto, unfolding(crate::specs::Fields::two_fields))]
+    pub fn two(mut self) -> Option<(&'a [u8], &'a [u8])>
+        ensures { option_map (λ p. (p.0.now, p.1.now)) result ≡ two_fields (left self.entry) }
+    {
+        let first = self.next()?;
+        let second = self.one()?;
+        Some((first, second))
+    }
+
+    // The three fields that are left, if they are exactly three.
+    #[tactic(auto, unfolding(crate::specs::Fields::three_fields))]
+    pub fn three(mut self) -> Option<(&'a [u8], &'a [u8], &'a [u8])>
+        ensures { option_map (λ t. (t.0.now, t.1.now, t.2.now)) result ≡ three_fields (left self.entry) }
+    {
+        let first = self.next()?;
+        let (second, third) = self.two()?;
+        Some((first, second, third))
     }
 }
 
