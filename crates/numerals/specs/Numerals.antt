@@ -33,6 +33,10 @@ numeral_after base n (b ∷ bs) = and_then (digit_in base b) (λ d. numeral_afte
 abbrev pub numeral : ℕ → List ℕ → Option ℕ
 numeral base bs = numeral_after base 0 bs
 
+-- the number that one to most digits write in the base, if it is below 2 ^ 32
+abbrev pub short_numeral : ℕ → ℕ → List ℕ → Option ℕ
+short_numeral base most bs = cond (within 1 most (length bs)) (and_then (numeral base bs) (below (2 ^ 32))) None
+
 -- WORD: one to eight hex digits
 unfoldable pub hex_word : List ℕ → Option ℕ
 hex_word bs = cond (within 1 8 (length bs)) (numeral 16 bs) None

@@ -1,71 +1,66 @@
 // Numbers, words and bytes as they are written in a script.
-ghost use Rattle.std.specs.Prelude.{◌≡◌, ◌^◌, ◌<◌, ◌≤◌, length, IfSome, IfOk, vec_items};
-ghost use Rattle.std.specs.Option.{option_map};
-ghost use Rattle.numerals.specs.Numerals.{hex_digit, digit_in, numeral, hex_word, code_text, hex_byte, hex_pairs, hex_bytes};
+ghost use Rattle.std.specs.Prelude.{◌≡◌, ◌^◌, length, vec_items};
+ghost use Rattle.line_fields.specs.Reads.{Reads};
+ghost use Rattle.numerals.specs.Numerals.{and_then, below, hex_digit, digit_in, numeral, short_numeral, hex_word, code_text, hex_byte, hex_pairs, hex_bytes};
 
-use line_fields::field_is;
-use std::alloc::{AllocError, Global};
+use line_fields::Unread;
+use std::alloc::Global;
 
 const MAX_HEX_DIGITS: usize = 8;
 
 const MAX_CODE_DIGITS: usize = 10;
 
 // The value of a hex digit of either case.
-fn hex_digit(b: u8) -> Option<u8>
+fn hex_digit(b: u8) -> Option<u32>
     ensures { result ≡ hex_digit b }
 {
-    match b {
-        b'0'..=b'9' => Some(b - b'0'),
-        b'A'..=b'F' => Some(b - b'A' + 10),
-        b'a'..=b'f' => Some(b - b'a' + 10),
-        _ => None,
-    }
+    char::from(b).to_digit(16)
 }
 
 // The value of a digit in a base up to 16.
-fn digit_in(base: u8, b: u8) -> Option<u8>
+fn digit_in(base: u32, b: u8) -> Option<u32>
     ensures { result ≡ digit_in base b }
 {
-    match hex_digit(b) {
-        Some(d) if d < base => Some(d),
-        _ => None,
-    }
+    hex_digit(b).filter(|d| *d < base)
 }
 
-// The number that a short row of digits writes, high digit first.
-fn number(base: u8, field: &[u8]) -> Option<u64>
-    requires { (base ≤ 16) × (length field.now ≤ 10) }
-    ensures value { result ≡ numeral base field.now }
-    ensures bound { IfSome result (λ n. n < base ^ length field.now) }
+// The number that digits write, high digit first, if it is below 2^32.
+#[tactic(auto, using(crate::proofs::Reading::digit_steps))]
+fn number(base: u32, field: &[u8]) -> Option<u32>
+    ensures { result ≡ and_then (numeral base field.now) (below (2 ^ 32)) }
 {
-    let mut n: u64 = 0;
+    let mut n = 0u32;
     for b in field {
-        let d = digit_in(base, *b)?;
-        n = n * u64::from(base) + u64::from(d);
+        n = n.checked_mul(base)?.checked_add(digit_in(base, *b)?)?;
     }
     Some(n)
 }
 
+// The same of one to `most` digits.
+fn short_number(base: u32, most: usize, field: &[u8]) -> Option<u32>
+    ensures { result ≡ short_numeral base most field.now }
+{
+    if field.is_empty() || field.len() > most {
+        None
+    } else {
+        number(base, field)
+    }
+}
+
 // A field that is a WORD: one to eight hex digits.
+#[tactic(auto, using(crate::proofs::Reading::hex_word_is))]
 pub fn hex_word(field: &[u8]) -> Option<u32>
     ensures { result ≡ hex_word field.now }
 {
-    if field.is_empty() || field.len() > MAX_HEX_DIGITS {
-        return None;
-    }
-    let n = number(16, field)?;
-    Some(n as u32)
+    short_number(16, MAX_HEX_DIGITS, field)
 }
 
 // A field that is a CODE: one to ten decimal digits with a value below 2^32.
+#[tactic(auto, unfolding(crate::specs::Numerals::code_text))]
 pub fn code_number(field: &[u8]) -> Option<u32>
     ensures { result ≡ code_text field.now }
 {
-    if field.is_empty() || field.len() > MAX_CODE_DIGITS {
-        return None;
-    }
-    let n = number(10, field)?;
-    u32::try_from(n).ok()
+    short_number(10, MAX_CODE_DIGITS, field)
 }
 
 // The byte that two hex digits write, high digit first.
@@ -74,37 +69,32 @@ fn hex_byte(high: u8, low: u8) -> Option<u8>
 {
     let h = hex_digit(high)?;
     let l = hex_digit(low)?;
-    Some(h * 16 + l)
+    Some((h * 16 + l) as u8)
 }
 
-// Hex digits as bytes, two digits a byte, or `None` where a digit is none or lacks its second.
-fn hex_pairs(heap: Global, digits: &[u8]) -> Result<Option<Vec<u8>>, AllocError>
-    ensures { IfOk result (λ o. option_map vec_items o ≡ hex_pairs digits.now) }
+// Hex digits as bytes, two digits a byte.
+#[tactic(auto, using(crate::proofs::Reading::no_byte))]
+fn hex_pairs(heap: Global, digits: &[u8]) -> Result<Vec<u8>, Unread>
+    ensures { Reads vec_items (hex_pairs digits.now) result }
 {
     let mut bytes = Vec::new(heap);
-    let mut left = digits;
-    while let [high, low, rest @ ..] = left {
-        let Some(b) = hex_byte(*high, *low) else {
-            return Ok(None);
+    for pair in digits.chunks(2) {
+        let [high, low] = pair else {
+            return Err(Unread::NotUnderstood);
         };
-        bytes.push(b)?;
-        left = rest;
+        bytes.push(hex_byte(*high, *low).ok_or(Unread::NotUnderstood)?)?;
     }
-    match left {
-        [] => Ok(Some(bytes)),
-        _ => Ok(None),
-    }
+    Ok(bytes)
 }
 
 // A field that is BYTES: two hex digits a byte, or `-` for no bytes.
-pub fn hex_bytes(heap: Global, field: &[u8]) -> Result<Option<Vec<u8>>, AllocError>
-    ensures { IfOk result (λ o. option_map vec_items o ≡ hex_bytes field.now) }
+#[tactic(auto, using(std::proofs::lemmas::Slice::Eq::text_from_reads), unfolding(crate::specs::Numerals::hex_bytes))]
+pub fn hex_bytes(heap: Global, field: &[u8]) -> Result<Vec<u8>, Unread>
+    ensures { Reads vec_items (hex_bytes field.now) result }
 {
-    if field.is_empty() {
-        Ok(None)
-    } else if field_is(field, b"-") {
-        Ok(Some(Vec::new(heap)))
-    } else {
-        hex_pairs(heap, field)
+    match field {
+        [] => Err(Unread::NotUnderstood),
+        b"-" => Ok(Vec::new(heap)),
+        digits => hex_pairs(heap, digits),
     }
 }

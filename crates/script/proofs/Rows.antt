@@ -1,45 +1,50 @@
--- What a row makes of the fields that are left. Assumes nothing.
-use Rattle.std.proofs.Common.{◌≡◌, ℕ, ◌<◌, true, false, eqb, List, [], ◌∷◌, ◌++◌, length, get_or, Some, None, Option, refl, ap, append-nil, arith, Bor}
+-- What a line says, by its call. Assumes nothing.
+use Rattle.std.proofs.Common.{◌≡◌, ℕ, Bool, true, false, cond, List, [], ◌∷◌, Some, None, Option, codes, refl}
 use Rattle.std.specs.Option.{option_map}
-use Rattle.numerals.specs.Numerals.{hex_word, code_text}
-use Rattle.line_fields.specs.Fields.{fields, fields_left, without_return}
-use Rattle.numerals.proofs.Reading.{moved}
-use Rattle.script.specs.Lines.{hex_words, or_not, says_nothing, not_understood, call_encode, encode_row, call_row, quiet, meaning}
+use Rattle.std.specs.Str.{bytes_eq}
+use Rattle.std.proofs.lemmas.Slice.Eq.{bytes_eq-Decides}
+use Rattle.numerals.specs.Numerals.{and_then, code_text}
+use Rattle.script_text.specs.Lines as message
+use Rattle.script_text.specs.Lines.{hex_words, call_text}
+use Rattle.script_text.proofs.Rows.{nothing_said, call_said}
+use Rattle.script.specs.Seen.{among}
+use Rattle.script.specs.Lines.{Meaning, says_nothing, not_understood, call_encode, call_take, or_not, encode_row, bare_row, codeword_row, call_row, call, meaning}
 
-pub one_word : (xs ys field : List ℕ) (w : ℕ) (fs : List (List ℕ)) → hex_word field ≡ Some w → ys ≡ xs ++ w ∷ [] → option_map (λ ws. ys ++ ws) (hex_words fs) ≡ option_map (λ ws. xs ++ ws) (hex_words (field ∷ fs))
-unfolding hex_words
-one_word xs ys field w fs e p = rw (p, e) (moved xs w (hex_words fs))
+encoded : (o : Option ℕ) (p : Option (List ℕ)) → or_not (and_then o (λ c. option_map (call_encode c) p)) ≡ among (message.or_not (and_then o (λ c. option_map (message.call_encode c) p)))
+encoded None p = refl
+encoded (Some c) None = refl
+encoded (Some c) (Some ws) = refl
 
-pub no_word : (field : List ℕ) (fs : List (List ℕ)) → hex_word field ≡ None → hex_words (field ∷ fs) ≡ None
-unfolding hex_words
-no_word field fs e = rw e
+same_encode : (fs : List (List ℕ)) → encode_row fs ≡ among (message.encode_row fs)
+unfolding encode_row message.encode_row
+same_encode [] = refl
+same_encode (code ∷ words) = encoded (code_text code) (hex_words words)
 
-pub no_words_left : (xs : List ℕ) (rest : Option (Bor (List ℕ))) → rest ≡ None → option_map (λ ws. xs ++ ws) (hex_words (fields_left rest)) ≡ Some xs
-unfolding hex_words fields_left
-no_words_left xs rest e = rw e (ap Some (append-nil xs))
+same_take : (fs : List (List ℕ)) → bare_row call_take fs ≡ among (message.bare_row message.call_take fs)
+unfolding bare_row message.bare_row
+same_take [] = refl
+same_take (f ∷ fs) = refl
 
-pub encode_is : (code : List ℕ) (words : List (List ℕ)) (n : ℕ) → code_text code ≡ Some n → encode_row (code ∷ words) ≡ or_not (option_map (call_encode n) (hex_words words))
-unfolding encode_row
-encode_is code words n e = rw e
+by_name : (a b c : Bool) (x y z : Meaning) (v w : message.Meaning) → c ≡ false → x ≡ among v → y ≡ among w → cond a x (cond b y (cond c z not_understood)) ≡ among (cond a v (cond b w message.not_understood))
+by_name true b c x y z v w e p q = p
+by_name false true c x y z v w e p q = q
+by_name false false true x y z v w e p q = absurd (cc)
+by_name false false false x y z v w e p q = refl
 
-pub encode_no_code : (code : List ℕ) (words : List (List ℕ)) → code_text code ≡ None → encode_row (code ∷ words) ≡ not_understood
-unfolding encode_row
-encode_no_code code words e = rw e
+-- a call with another name is one of `script_text`
+pub other_name : (name : List ℕ) (rest : List (List ℕ)) → bytes_eq name (codes "codeword") ≡ false → call_row name rest ≡ among (message.call_row name rest)
+unfolding call_row message.call_row
+other_name name rest e =
+    by_name (bytes_eq name (codes "encode")) (bytes_eq name (codes "take")) (bytes_eq name (codes "codeword")) _ _ (codeword_row rest) _ _ e (same_encode rest) (same_take rest)
 
-pub quiet_none : (text : List ℕ) → length text ≡ 0 → quiet text ≡ true
-unfolding quiet
-quiet_none [] e = refl
-quiet_none (b ∷ bs) e = absurd (omega arith)
+pub codeword_name : (name : List ℕ) (rest : List (List ℕ)) → bytes_eq name (codes "codeword") ≡ true → call_row name rest ≡ codeword_row rest
+unfolding call_row
+codeword_name name rest e = let is = (bytes_eq-Decides name (codes "codeword")).0 e in rw is
 
-pub quiet_some : (text : List ℕ) → 0 < length text → quiet text ≡ eqb (get_or text 0 0) 35
-unfolding quiet
-quiet_some [] h = absurd (omega arith)
-quiet_some (b ∷ bs) h = refl
-
-pub says_nothing_lem : (line text : List ℕ) → text ≡ without_return line → quiet text ≡ true → meaning line ≡ says_nothing
+pub no_call : (line : List ℕ) → None ≡ call_text line → meaning line ≡ says_nothing
 unfolding meaning
-says_nothing_lem line text e q = rw (← e, q)
+no_call line e = nothing_said line says_nothing call e
 
-pub says_call : (line text name : List ℕ) (rest : List (List ℕ)) → text ≡ without_return line → quiet text ≡ false → fields text ≡ name ∷ rest → meaning line ≡ call_row name rest
+pub one_call : (line : List ℕ) (fs : List (List ℕ)) → Some fs ≡ call_text line → meaning line ≡ call fs
 unfolding meaning
-says_call line text name rest e q f = rw (← e, q, f)
+one_call line fs e = call_said line says_nothing call fs e

@@ -5,6 +5,7 @@ use Rattle.std.specs.Option.{option_map}
 use Rattle.std.specs.Str.{bytes_eq}
 use Rattle.numerals.specs.Numerals.{and_then, hex_word, code_text}
 use Rattle.line_fields.specs.Fields.{fields, two_fields, without_return}
+use Rattle.script_text.specs.Lines.{hex_words, quiet}
 use Rattle.script.specs.declared.given.Kind.{Kind}
 use Rattle.script.specs.Given.{reading_fields}
 
@@ -16,11 +17,6 @@ pub data Meaning : Type 0 where
   call_take : Meaning
   call_codeword : Kind → ℕ → List ℕ → Meaning
   call_codeword_of_word : ℕ → Meaning
-
--- WORD..: any number of words, none too
-unfoldable pub hex_words : List (List ℕ) → Option (List ℕ)
-hex_words [] = Some []
-hex_words (f ∷ fs) = and_then (hex_word f) (λ w. option_map (λ ws. w ∷ ws) (hex_words fs))
 
 -- a call, if its fields are right
 abbrev pub or_not : Option Meaning → Meaning
@@ -67,11 +63,6 @@ call_row name rest = row_of rows name rest
 abbrev pub call : List (List ℕ) → Meaning
 call [] = not_understood
 call (name ∷ rest) = call_row name rest
-
--- an empty text, and a comment, which begins with '#' (byte 35), print nothing
-unfoldable pub quiet : List ℕ → Bool
-quiet [] = true
-quiet (b ∷ bs) = b == 35
 
 -- what a line of a script says; one carriage return at its end does not count
 unfoldable pub meaning : List ℕ → Meaning

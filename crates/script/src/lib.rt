@@ -1,8 +1,8 @@
-// What a line of a script says.
+// What a line of a script says, the codeword lines too.
 #![tactic(auto)]
 
 mod given;
 mod lines;
 
-pub use given::Kind;
-pub use lines::{Line, parse};
+pub use given::{Given, Kind};
+pub use lines::{Call, parse};

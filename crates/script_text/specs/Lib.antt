@@ -1,4 +1,2 @@
-pub mod Numerals
-pub mod Fields
 pub mod Lines
 pub mod Seen

@@ -3,8 +3,8 @@ use Rattle.std.specs.Prelude.{ℕ, Bool, true, cond, List, [], ◌∷◌, Some, 
 use Prim.Native.String.{String}
 use Rattle.std.specs.Option.{option_map}
 use Rattle.std.specs.Str.{bytes_eq}
-use Rattle.script_text.specs.Numerals.{and_then, hex_word, code_text}
-use Rattle.script_text.specs.Fields.{fields, without_return}
+use Rattle.numerals.specs.Numerals.{and_then, hex_word, code_text}
+use Rattle.line_fields.specs.Fields.{fields, without_return}
 
 -- what a line can be
 pub data Meaning : Type 0 where
@@ -55,6 +55,10 @@ call (name ∷ rest) = call_row name rest
 unfoldable pub quiet : List ℕ → Bool
 quiet [] = true
 quiet (b ∷ bs) = b == 35
+
+-- the fields of a line's call, if it says something; one carriage return at its end does not count
+unfoldable pub call_text : List ℕ → Option (List (List ℕ))
+call_text line = let text = without_return line in cond (quiet text) None (Some (fields text))
 
 -- what a line of a script says; one carriage return at its end does not count
 unfoldable pub meaning : List ℕ → Meaning

@@ -1,108 +1,100 @@
 // The lines of a script.
-ghost use Rattle.std.specs.Prelude.{◌≡◌, IfOk, vec_items};
+ghost use Rattle.std.specs.Prelude.{◌≡◌, vec_items};
 ghost use Rattle.std.specs.Option.{option_map};
-ghost use Rattle.std.specs.Str.{bytes_eq};
-ghost use Rattle.script_text.specs.Fields.{fields_left};
-ghost use Rattle.script_text.specs.Lines.{hex_words, encode_row, bare_row, call_row, quiet, meaning};
-ghost use Rattle.script_text.specs.Seen.{seen};
+ghost use Rattle.line_fields.specs.Left.{left};
+ghost use Rattle.line_fields.specs.Reads.{Tells, Reads};
+ghost use Rattle.script_text.specs.Lines.{not_understood, hex_words, encode_row, bare_row, call, call_text, quiet, meaning};
+ghost use Rattle.script_text.specs.Seen.{says, line_says};
 
-use crate::fields::{split_field, without_return};
-use crate::numerals::{code_number, hex_word};
-use std::alloc::{AllocError, Global};
+use line_fields::{Fields, Unread, without_return};
+use numerals::{code_number, hex_word};
+use std::alloc::Global;
 
 const COMMENT: u8 = b'#';
 
-// What a line of a script says.
-#[derive(Drop)]
-pub enum Line {
-    Nothing,
-    NotUnderstood,
+// What a line of a script asks for.
+#[derive(Debug, Drop)]
+pub enum Call {
     Encode { code: u32, words: Vec<u32> },
     Take,
 }
 
-// The words that are left of a line, or `None` where a field is no word.
-fn words_left(heap: Global, rest: Option<&[u8]>) -> Result<Option<Vec<u32>>, AllocError>
-    ensures { IfOk result (λ o. option_map vec_items o ≡ hex_words (fields_left rest.entry)) }
+// The words that are left of a line.
+#[tactic(auto, using(crate::proofs::Rows::no_word))]
+fn words_left(heap: Global, fields: Fields) -> Result<Vec<u32>, Unread>
+    ensures { Reads vec_items (hex_words (left fields.entry)) result }
 {
     let mut words = Vec::new(heap);
-    let mut rest = rest;
-    while let Some(text) = rest {
-        let (field, after) = split_field(text);
-        let Some(w) = hex_word(field) else {
-            return Ok(None);
-        };
-        words.push(w)?;
-        rest = after;
+    for field in fields {
+        words.push(hex_word(field).ok_or(Unread::NotUnderstood)?)?;
     }
-    Ok(Some(words))
+    Ok(words)
 }
 
 // encode CODE WORD..
-fn encode_row(heap: Global, rest: Option<&[u8]>) -> Result<Line, AllocError>
-    ensures { IfOk result (λ l. seen l ≡ encode_row (fields_left rest.entry)) }
+#[tactic(auto, unfolding(crate::specs::Lines::encode_row))]
+fn encode_row(heap: Global, mut fields: Fields) -> Result<Call, Unread>
+    ensures { Tells not_understood says (encode_row (left fields.entry)) result }
 {
-    let Some(text) = rest else {
-        return Ok(Line::NotUnderstood);
-    };
-    let (field, rest) = split_field(text);
-    let Some(code) = code_number(field) else {
-        return Ok(Line::NotUnderstood);
-    };
-    match words_left(heap, rest)? {
-        Some(words) => Ok(Line::Encode { code, words }),
-        None => Ok(Line::NotUnderstood),
-    }
+    let code = fields
+        .next()
+        .and_then(|field| code_number(field))
+        .ok_or(Unread::NotUnderstood)?;
+    let words = words_left(heap, fields)?;
+    Ok(Call::Encode { code, words })
 }
 
 // A call with no fields after its name.
-fn bare_row(line: Line, rest: Option<&[u8]>) -> Line
-    ensures { seen result ≡ bare_row (seen line) (fields_left rest.entry) }
+#[tactic(auto, unfolding(crate::specs::Lines::bare_row))]
+fn bare_row(call: Call, mut fields: Fields) -> Result<Call, Unread>
+    ensures { Tells not_understood says (bare_row (says call) (left fields.entry)) result }
 {
-    match rest {
-        Some(_) => Line::NotUnderstood,
-        None => line,
+    match fields.next() {
+        Some(_) => Err(Unread::NotUnderstood),
+        None => Ok(call),
     }
 }
 
-// Whether the name of a call is this one.
-fn is(name: &[u8], this: &[u8]) -> bool
-    ensures { result ≡ bytes_eq name.now this.now }
+// A call by its fields, the first of which is its name.
+#[tactic(auto, using(std::proofs::lemmas::Slice::Eq::text_from_reads), unfolding(crate::specs::Lines::call_row))]
+pub fn read_call(heap: Global, mut fields: Fields) -> Result<Call, Unread>
+    ensures { Tells not_understood says (call (left fields.entry)) result }
 {
-    name == this
-}
-
-// A call by its name, with the fields that are left.
-fn call_row(heap: Global, name: &[u8], rest: Option<&[u8]>) -> Result<Line, AllocError>
-    ensures { IfOk result (λ l. seen l ≡ call_row name.now (fields_left rest.entry)) }
-{
-    if is(name, b"encode") {
-        encode_row(heap, rest)
-    } else if is(name, b"take") {
-        Ok(bare_row(Line::Take, rest))
-    } else {
-        Ok(Line::NotUnderstood)
+    match fields.next() {
+        Some(b"encode") => encode_row(heap, fields),
+        Some(b"take") => bare_row(Call::Take, fields),
+        _ => Err(Unread::NotUnderstood),
     }
 }
 
 // Whether a text is empty or a comment.
+#[tactic(auto, using(crate::proofs::Rows::quiet_none, crate::proofs::Rows::quiet_some))]
 fn is_quiet(text: &[u8]) -> bool
     ensures { result ≡ quiet text.now }
 {
-    match text {
-        [] => true,
-        [first, ..] => *first == COMMENT,
-    }
+    matches!(text, [] | [COMMENT, ..])
 }
 
-// Reads a line of a script.
-pub fn parse(heap: Global, line: &[u8]) -> Result<Line, AllocError>
-    ensures { IfOk result (λ l. seen l ≡ meaning line.now) }
+// The fields of a line's call, or `None` where it says nothing.
+#[tactic(auto, unfolding(crate::specs::Lines::call_text))]
+pub fn call_fields(line: &[u8]) -> Option<Fields<'_>>
+    ensures { option_map left result ≡ call_text line.now }
 {
     let text = without_return(line);
     if is_quiet(text) {
-        return Ok(Line::Nothing);
+        None
+    } else {
+        Some(Fields::new(text))
     }
-    let (name, rest) = split_field(text);
-    call_row(heap, name, rest)
+}
+
+// Reads a line of a script, or gives `None` where it says nothing.
+#[tactic(auto, using(crate::proofs::Rows::no_call, crate::proofs::Rows::one_call))]
+pub fn parse(heap: Global, line: &[u8]) -> Result<Option<Call>, Unread>
+    ensures { Tells not_understood line_says (meaning line.now) result }
+{
+    match call_fields(line) {
+        Some(fields) => Ok(Some(read_call(heap, fields)?)),
+        None => Ok(None),
+    }
 }

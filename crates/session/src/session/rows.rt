@@ -4,8 +4,9 @@ ghost use Rattle.session.specs.Steps.{Adds, EncodeLine, TakeLine, Steps};
 use super::Session;
 use bch::MESSAGE_WORDS;
 use codes::{encode, take_message};
+use line_fields::Unread;
 use printing::{Answer, put_line};
-use script_text::{Line, parse};
+use script_text::{Call, parse};
 use std::alloc::AllocError;
 
 impl Session {
@@ -42,11 +43,12 @@ impl Session {
         ensures { OnOk result (Adds (Steps line.now self.old self.new) out.old.items out.new.items) }
     {
         let heap = *out.allocator();
-        match parse(heap, line)? {
-            Line::Nothing => Ok(()),
-            Line::NotUnderstood => put_line(&Answer::NotUnderstood, out),
-            Line::Encode { code, words } => self.encode_row(code, &words, out),
-            Line::Take => self.take_row(out),
+        match parse(heap, line) {
+            Ok(None) => Ok(()),
+            Ok(Some(Call::Encode { code, words })) => self.encode_row(code, &words, out),
+            Ok(Some(Call::Take)) => self.take_row(out),
+            Err(Unread::NotUnderstood) => put_line(&Answer::NotUnderstood, out),
+            Err(Unread::OutOfMemory(e)) => Err(e),
         }
     }
 }

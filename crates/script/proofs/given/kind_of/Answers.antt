@@ -1,15 +1,12 @@
-use Rattle.std.proofs.Common.{rules}
+use Rattle.std.proofs.Common.{codes, rules}
+use Rattle.std.proofs.lemmas.Slice.Eq.{text_from_reads}
 use Rattle.script.specs.Given.{kind_text}
 use Rattle.script.proofs.given.kind_of.Goals as goal
 
-pub returns-then-field_is : goal.returns-then-field_is
+pub returns-in-signed : goal.returns-in-signed
 unfolding kind_text
-returns-then-field_is c = search rules
+returns-in-signed c = let e = text_from_reads c.args.field.now (codes "signed") (search rules) (search rules) in rw e
 
-pub returns-then-field_is-2 : goal.returns-then-field_is-2
+pub returns-in-graded : goal.returns-in-graded
 unfolding kind_text
-returns-then-field_is-2 c = search rules
-
-pub returns-else-field_is-2 : goal.returns-else-field_is-2
-unfolding kind_text
-returns-else-field_is-2 c = search rules
+returns-in-graded c = let e = text_from_reads c.args.field.now (codes "graded") (search rules) (search rules) in rw e
