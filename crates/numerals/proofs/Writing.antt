@@ -30,5 +30,6 @@ bytes_append [] b = append-nil (hex_text 2 b)
 bytes_append (c ∷ bytes) b = ap (λ t. hex_text 2 c ++ t) (bytes_append bytes b) ∙ sym (append_assoc (hex_text 2 c) (bytes_text bytes) (hex_text 2 b))
 
 -- the text of one more byte
-pub byte_more : (bytes : List ℕ) (i : ℕ) → i < length bytes → bytes_text (take (i + 1) bytes) ≡ bytes_text (take i bytes) ++ hex_text 2 (get_or bytes i 0)
+pub byte_more : (bytes : List ℕ) (i : ℕ) → i < length bytes
+    → bytes_text (take (i + 1) bytes) ≡ bytes_text (take i bytes) ++ hex_text 2 (get_or bytes i 0)
 byte_more bytes i h = ap bytes_text (take_more bytes i 0 h) ∙ bytes_append (take i bytes) (get_or bytes i 0)
