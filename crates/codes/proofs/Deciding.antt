@@ -1,10 +1,9 @@
 -- Each way out of encoding and of taking a message out, as its call says it. Assumes nothing.
-use Rattle.std.proofs.Common.{◌≡◌, ℕ, Bool, false, List, ◌++◌, length, drop, replicate, Ok, Err, sym, refl, ap, ◌∙◌, subst, inl, inr, arith}
+use Rattle.std.proofs.Common.{◌≡◌, ℕ, Bool, false, List, ◌++◌, length, drop, replicate, Ok, sym, refl, ap, ◌∙◌, subst, arith}
 use Rattle.std.proofs.lemmas.List.{get_or_append_left, get_or-replicate, length-replicate, drop_at, length-append}
-use Rattle.refusals.specs.declared.refusal.Refusal.TheVariants.{UnknownCode, NoMessage}
 use Rattle.galois.specs.Polynomials.{bits, remainder}
 use Rattle.bch.specs.declared.code.Code.{Code}
-use Rattle.bch.specs.Codes.{places, NoCode, code_number, parity, generator}
+use Rattle.bch.specs.Codes.{places, code_number, parity, generator}
 use Rattle.bch.specs.Messages.{Message, Carries, payload, encoding}
 use Rattle.bch.proofs.Codewords.{parity_below}
 use Rattle.bch.proofs.Messages.{payload_carries, carriers_equal, length_payload}
@@ -12,18 +11,6 @@ use Rattle.bch.proofs.Encoding.{encoding_carries, encoding_only}
 use Rattle.codes.specs.declared.word.Word.{Word}
 use Rattle.codes.specs.Steps.{Laid}
 use Rattle.codes.specs.Calls.{Encodes}
-
-pub refuse_code : (words : List ℕ) (number : ℕ) (word : Word) → NoCode number → Encodes words number word word (Err UnknownCode)
-refuse_code words number word none = (
-  record { fits = inl (refl, none); first = ((λ l. absurd (omega arith)), ((λ l. absurd (omega arith)), tt)); returns = refl },
-  refl,
-)
-
-pub refuse_message : (words : List ℕ) (number : ℕ) (word : Word) (k : Code) → code_number k ≡ number → (Message words → ⊥) → Encodes words number word word (Err NoMessage)
-refuse_message words number word k is not = (
-  record { fits = inr (inl (refl, not)); first = ((λ _ none. none k is), ((λ l. absurd (omega arith)), tt)); returns = refl },
-  refl,
-)
 
 pub accept : (words : List ℕ) (number : ℕ) (old new : Word) (k : Code) → code_number k ≡ number → Message words → new.code ≡ k → new.bits ≡ encoding k words
     → Encodes words number old new (Ok tt)

@@ -1,4 +1,4 @@
-use Rattle.std.proofs.Common.{◌≡◌, ◌+◌, ◌*◌, ◌^◌, ◌<◌, ◌≤◌, Bool, List, ◌++◌, [], ◌∷◌, length, refl, arith, append_assoc, pow_mono}
+use Rattle.std.proofs.Common.{◌≡◌, ◌+◌, ◌*◌, ◌^◌, ◌<◌, ◌≤◌, Bool, List, ◌++◌, [], ◌∷◌, length, refl, arith, pow_mono}
 use Rattle.std.proofs.lemmas.Grind.{common_steps}
 use Rattle.galois.specs.Polynomials.{digit, number}
 use Rattle.galois.proofs.Words.{number_lt, byte_digit, digit_lt}
@@ -22,6 +22,3 @@ pub overflow_add-value : goal.overflow_add-value
 overflow_add-value c =
     let inv = c.loop-place.invariant in
     grind (arith, fits _ _ _ inv.0 c.in-Some.place.now c.requires inv.1 c.in-Some.ensures.steps, byte_digit, digit_lt)
-
-pub loop-place-preserved : goal.loop-place-preserved
-loop-place-preserved c = (c.in-Some.place.now ∷ c.loop-place.invariant.0, grind (arith, common_steps, append_assoc), grind (arith, byte_digit))

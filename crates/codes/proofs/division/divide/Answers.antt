@@ -1,4 +1,4 @@
-use Rattle.std.proofs.Common.{◌≡◌, [], ◌∷◌, refl, arith, append_assoc}
+use Rattle.std.proofs.Common.{◌≡◌, arith}
 use Rattle.std.proofs.lemmas.Grind.{common_steps}
 use Rattle.galois.specs.Polynomials.{remainder}
 use Rattle.galois.proofs.Words.{divided, remainder_lt}
@@ -6,14 +6,8 @@ use Rattle.bch.specs.Codes.{parity, generator}
 use Rattle.bch.proofs.Roots.{degree}
 use Rattle.codes.proofs.division.divide.Goals as goal
 
-pub loop-place-init : goal.loop-place-init
-loop-place-init c = ([], grind (arith, common_steps), refl)
-
 pub divide_step-rest-requires : goal.divide_step-rest-requires
 divide_step-rest-requires c = rw c.loop-place.invariant.2 (remainder_lt (degree c.args.code) c.loop-place.invariant.0)
-
-pub loop-place-preserved : goal.loop-place-preserved
-loop-place-preserved c = (c.in-Some.place.now ∷ c.loop-place.invariant.0, grind (arith, common_steps, append_assoc), grind arith)
 
 pub returns : goal.returns
 returns c =

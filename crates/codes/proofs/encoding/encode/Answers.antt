@@ -1,24 +1,17 @@
 use Rattle.std.proofs.Common.{◌≡◌, sym, ◌∙◌, subst}
-use Rattle.std.proofs.lemmas.Result.{err_from_is_err_and}
 use Rattle.bch.specs.Codes.{Codeword}
 use Rattle.bch.specs.Messages.{Message, encoding}
 use Rattle.bch.proofs.Encoding.{encoding_codeword}
 use Rattle.codes.proofs.Inverse.{out_after_in}
-use Rattle.codes.proofs.Deciding.{refuse_code, refuse_message, accept, laid_payload, built}
+use Rattle.codes.proofs.Deciding.{accept, laid_payload, built}
 use Rattle.codes.proofs.encoding.encode.Goals as goal
 use Rattle.codes.proofs.encoding.encode.Goals.{After-lay_parity}
 
-pub returns-in_err-code : goal.returns-in_err-code
-returns-in_err-code c =
-    let p = err_from_is_err_and c.from_residual.result c.from_residual.ensures.1 in
-    let told = c.in_err-code.ensures in
-    record { call = rw (p.1, p.2, told.0) (refuse_code _ _ _ told.1); out_after_in = out_after_in }
+pub returns-in_err-code-clause-out_after_in : goal.returns-in_err-code-clause-out_after_in
+returns-in_err-code-clause-out_after_in c = out_after_in
 
-pub returns-then-not-is_message : goal.returns-then-not-is_message
-returns-then-not-is_message c = record {
-  call = refuse_message _ _ _ c.in_ok-code.code c.in_ok-code.ensures (c.is_message.ensures.no c.if-not-is_message.true);
-  out_after_in = out_after_in;
-}
+pub returns-then-not-is_message-clause-out_after_in : goal.returns-then-not-is_message-clause-out_after_in
+returns-then-not-is_message-clause-out_after_in c = out_after_in
 
 message : (c : After-lay_parity) → Message c.args.words.now
 message c = c.is_message.ensures.yes c.if-not-is_message.false
