@@ -2,7 +2,7 @@
 use Rattle.std.specs.Prelude.{ℕ, ◌-◌, Bool, List, [], ◌∷◌, ◌++◌, Ok, Err, codes, decimal, Result}
 use Rattle.refusals.specs.declared.refusal.Refusal.{Refusal}
 use Rattle.refusals.specs.Refusals.{returned}
-use Rattle.script_text.specs.Numerals.{hex_text, bytes_text}
+use Rattle.numerals.specs.Numerals.{hex_text, bytes_text}
 use Rattle.session.specs.Packing.{packing}
 
 -- a text as a line, with its newline (byte 10)

@@ -5,8 +5,8 @@ ghost use Rattle.session.specs.Texts.{printed, numbers_text, refused_text, words
 
 use crate::packing::packed;
 use bch::PLACES;
+use numerals::{push_bytes_text, push_word_text};
 use refusals::Refusal;
-use script_text::{push_bytes_text, push_word_text};
 use std::alloc::{AllocError, Global};
 
 // A space and a number.

@@ -5,7 +5,8 @@ use super::Session;
 use crate::texts::{push_message, push_not_understood, push_refusal, push_word};
 use bch::MESSAGE_WORDS;
 use codes::{encode, take_message};
-use script_text::{Line, parse};
+use line_fields::Unread;
+use script_text::{Call, parse};
 use std::alloc::{AllocError, Global};
 
 impl Session {
@@ -44,11 +45,12 @@ impl Session {
     pub fn answer(&mut self, heap: Global, line: &[u8], out: &mut Vec<u8>) -> Result<(), AllocError>
         ensures { OnOk result (Adds (Steps line.now self.old self.new) out.old.items out.new.items) }
     {
-        match parse(heap, line)? {
-            Line::Nothing => Ok(()),
-            Line::NotUnderstood => push_not_understood(out),
-            Line::Encode { code, words } => self.encode_row(heap, code, &words, out),
-            Line::Take => self.take_row(heap, out),
+        match parse(heap, line) {
+            Ok(None) => Ok(()),
+            Ok(Some(Call::Encode { code, words })) => self.encode_row(heap, code, &words, out),
+            Ok(Some(Call::Take)) => self.take_row(heap, out),
+            Err(Unread::NotUnderstood) => push_not_understood(out),
+            Err(Unread::OutOfMemory(e)) => Err(e),
         }
     }
 }
