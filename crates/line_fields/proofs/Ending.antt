@@ -16,7 +16,9 @@ ends [] = refl
 ends (b ∷ bs) = ends_at (b ∷ bs) (length (b ∷ bs) - 1) (omega arith)
 
 -- what `strip_suffix` left, or the line as it was
-pub stripped : (line : Bor (List ℕ)) (r : Option (Bor (List ℕ))) → MatchOption r (pointwise eqb (drop (length line.now - 1) line.now) (13 ∷ []) ≡ false) (λ x. (pointwise eqb (drop (length line.now - 1) line.now) (13 ∷ []) ≡ true) × (x.now ≡ take (length line.now - 1) line.now) × (length x.now + 1 ≡ length line.now)) → (unwrap_or r line).now ≡ without_return line.now
+pub stripped : (line : Bor (List ℕ)) (r : Option (Bor (List ℕ)))
+    → MatchOption r (pointwise eqb (drop (length line.now - 1) line.now) (13 ∷ []) ≡ false) (λ x. (pointwise eqb (drop (length line.now - 1) line.now) (13 ∷ []) ≡ true) × (x.now ≡ take (length line.now - 1) line.now) × (length x.now + 1 ≡ length line.now))
+    → (unwrap_or r line).now ≡ without_return line.now
 unfolding without_return
 stripped line None h = let e = ends line.now in rw (← e, h)
 stripped line (Some text) h = let e = ends line.now in rw (← e, h.0, h.1)

@@ -10,7 +10,8 @@ use Rattle.script_text.proofs.Rows.{nothing_said, call_said}
 use Rattle.script.specs.Seen.{among}
 use Rattle.script.specs.Lines.{Meaning, says_nothing, not_understood, call_encode, call_take, or_not, encode_row, bare_row, codeword_row, call_row, call, meaning}
 
-encoded : (o : Option ℕ) (p : Option (List ℕ)) → or_not (and_then o (λ c. option_map (call_encode c) p)) ≡ among (message.or_not (and_then o (λ c. option_map (message.call_encode c) p)))
+encoded : (o : Option ℕ) (p : Option (List ℕ))
+    → or_not (and_then o (λ c. option_map (call_encode c) p)) ≡ among (message.or_not (and_then o (λ c. option_map (message.call_encode c) p)))
 encoded None p = refl
 encoded (Some c) None = refl
 encoded (Some c) (Some ws) = refl
@@ -25,7 +26,8 @@ unfolding bare_row message.bare_row
 same_take [] = refl
 same_take (f ∷ fs) = refl
 
-by_name : (a b c : Bool) (x y z : Meaning) (v w : message.Meaning) → c ≡ false → x ≡ among v → y ≡ among w → cond a x (cond b y (cond c z not_understood)) ≡ among (cond a v (cond b w message.not_understood))
+by_name : (a b c : Bool) (x y z : Meaning) (v w : message.Meaning) → c ≡ false → x ≡ among v → y ≡ among w
+    → cond a x (cond b y (cond c z not_understood)) ≡ among (cond a v (cond b w message.not_understood))
 by_name true b c x y z v w e p q = p
 by_name false true c x y z v w e p q = q
 by_name false false true x y z v w e p q = absurd (cc)
