@@ -26,27 +26,33 @@ least_after base n m (Some d) f small later e =
 numeral_least : (base n m : ℕ) (bs : List ℕ) → numeral_after base n bs ≡ Some m → n ≤ m
 numeral_least base n m [] e = omega (arith, same_Some n m e)
 numeral_least base n m (b ∷ bs) e =
-    least_after base n m (digit_in base b) (λ d. numeral_after base (n * base + d) bs) (λ d is. digit_below base b d (sym is)) (λ d is later. numeral_least base (n * base + d) m bs later) e
+    least_after base n m (digit_in base b) (λ d. numeral_after base (n * base + d) bs)
+      (λ d is. digit_below base b d (sym is)) (λ d is later. numeral_least base (n * base + d) m bs later) e
 
 not_below : (o : Option ℕ) (bound n : ℕ) → ((m : ℕ) → o ≡ Some m → n ≤ m) → bound ≤ n → and_then o (below bound) ≡ None
 not_below None bound n least h = refl
 not_below (Some m) bound n least h = let l = least m refl in grind (arith, nat_tests)
 
 -- what a byte does to the number that is read: with a digit there is one more, and without one, or past the bound, none
+by_byte : (bound base n : ℕ) (bs : List ℕ) (i : ℕ) (o : Option ℕ) → i < length bs → o ≡ digit_in base (get_or bs i 0)
+    → and_then (numeral_after base n (drop i bs)) (below bound) ≡ and_then (and_then o (λ d. numeral_after base (n * base + d) (drop (i + 1) bs))) (below bound)
+by_byte bound base n bs i o h e =
+    at_drop_more (λ l. and_then (numeral_after base n l) (below bound)) bs i 0 h
+    ∙ ap (λ o. and_then (and_then o (λ d. numeral_after base (n * base + d) (drop (i + 1) bs))) (below bound)) (sym e)
+
 pub one_more : (bound base n d : ℕ) (bs : List ℕ) (i : ℕ) → i < length bs → Some d ≡ digit_in base (get_or bs i 0)
     → and_then (numeral_after base n (drop i bs)) (below bound) ≡ and_then (numeral_after base (n * base + d) (drop (i + 1) bs)) (below bound)
-one_more bound base n d bs i h e =
-    at_drop_more (λ l. and_then (numeral_after base n l) (below bound)) bs i 0 h ∙ ap (λ o. and_then (and_then o (λ d. numeral_after base (n * base + d) (drop (i + 1) bs))) (below bound)) (sym e)
+one_more bound base n d bs i h e = by_byte bound base n bs i (Some d) h e
 
 pub no_digit : (bound base n : ℕ) (bs : List ℕ) (i : ℕ) → i < length bs → None ≡ digit_in base (get_or bs i 0)
     → and_then (numeral_after base n (drop i bs)) (below bound) ≡ None
-no_digit bound base n bs i h e =
-    at_drop_more (λ l. and_then (numeral_after base n l) (below bound)) bs i 0 h ∙ ap (λ o. and_then (and_then o (λ d. numeral_after base (n * base + d) (drop (i + 1) bs))) (below bound)) (sym e)
+no_digit bound base n bs i h e = by_byte bound base n bs i None h e
 
 pub no_sum : (bound base n d : ℕ) (bs : List ℕ) (i : ℕ) → i < length bs → Some d ≡ digit_in base (get_or bs i 0) → bound ≤ n * base + d
     → and_then (numeral_after base n (drop i bs)) (below bound) ≡ None
 no_sum bound base n d bs i h e l =
-    one_more bound base n d bs i h e ∙ not_below (numeral_after base (n * base + d) (drop (i + 1) bs)) bound (n * base + d) (λ m. numeral_least base (n * base + d) m (drop (i + 1) bs)) l
+    one_more bound base n d bs i h e
+    ∙ not_below (numeral_after base (n * base + d) (drop (i + 1) bs)) bound (n * base + d) (λ m. numeral_least base (n * base + d) m (drop (i + 1) bs)) l
 
 by_digit : (o : Option ℕ) (P : Type 0) → (None ≡ o → P) → ((d : ℕ) → Some d ≡ o → P) → P
 by_digit None P none some = none refl
@@ -75,7 +81,8 @@ bound_after base n m k (Some d) f small later e =
 numeral_bound : (base n m : ℕ) (bs : List ℕ) → numeral_after base n bs ≡ Some m → m < (n + 1) * base ^ length bs
 numeral_bound base n m [] e = rw pow-zero (omega (arith, same_Some n m e))
 numeral_bound base n m (b ∷ bs) e =
-    bound_after base n m (length bs) (digit_in base b) (λ d. numeral_after base (n * base + d) bs) (λ d is. digit_below base b d (sym is)) (λ d. numeral_bound base (n * base + d) m bs) e
+    bound_after base n m (length bs) (digit_in base b) (λ d. numeral_after base (n * base + d) bs)
+      (λ d is. digit_below base b d (sym is)) (λ d. numeral_bound base (n * base + d) m bs) e
 
 short : (o : Option ℕ) → ((n : ℕ) → o ≡ Some n → n < 2 ^ 32) → and_then o (below (2 ^ 32)) ≡ o
 short None bound = refl
@@ -91,7 +98,9 @@ pub hex_word_is : (bs : List ℕ) → short_numeral 16 8 bs ≡ hex_word bs
 unfolding hex_word
 hex_word_is bs =
     let is_short = within 1 8 (length bs) in
-    cond_both is_short _ _ (λ o. o ≡ cond is_short (numeral 16 bs) None) (λ e. short (numeral 16 bs) (eight_digits_fit bs e) ∙ sym (cond-true is_short _ _ e)) (λ e. sym (cond-false is_short _ _ e))
+    cond_both is_short _ _ (λ o. o ≡ cond is_short (numeral 16 bs) None)
+      (λ e. short (numeral 16 bs) (eight_digits_fit bs e) ∙ sym (cond-true is_short _ _ e))
+      (λ e. sym (cond-false is_short _ _ e))
 
 -- one more value after those that there are, or in front of those to come
 pub moved : (xs : List ℕ) (w : ℕ) (o : Option (List ℕ))

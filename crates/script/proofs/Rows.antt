@@ -37,7 +37,8 @@ by_name false false false x y z v w e p q = refl
 pub other_name : (name : List ℕ) (rest : List (List ℕ)) → bytes_eq name (codes "codeword") ≡ false → call_row name rest ≡ among (message.call_row name rest)
 unfolding call_row message.call_row
 other_name name rest e =
-    by_name (bytes_eq name (codes "encode")) (bytes_eq name (codes "take")) (bytes_eq name (codes "codeword")) _ _ (codeword_row rest) _ _ e (same_encode rest) (same_take rest)
+    by_name (bytes_eq name (codes "encode")) (bytes_eq name (codes "take")) (bytes_eq name (codes "codeword"))
+      _ _ (codeword_row rest) _ _ e (same_encode rest) (same_take rest)
 
 pub codeword_name : (name : List ℕ) (rest : List (List ℕ)) → bytes_eq name (codes "codeword") ≡ true → call_row name rest ≡ codeword_row rest
 unfolding call_row
