@@ -23,7 +23,8 @@ no_more (b ∷ bs) no_space =
     cond-false (eqb b 32) _ _ (ne_eqb b 32 (no_space 0 (omega arith)))
     ∙ ap (begun b) (no_more bs (λ k l. no_space (suc k) (omega arith)))
 
-pub split_fields : (bs : List ℕ) (i : ℕ) → i < length bs → NoSpace bs i → get_or bs i 0 ≡ 32 → fields bs ≡ take i bs ∷ fields (take (length bs - (i + 1)) (drop (i + 1) bs))
+pub split_fields : (bs : List ℕ) (i : ℕ) → i < length bs → NoSpace bs i → get_or bs i 0 ≡ 32
+    → fields bs ≡ take i bs ∷ fields (take (length bs - (i + 1)) (drop (i + 1) bs))
 split_fields bs i h no_space e = simp take_rest (rw add-one (at_space bs i h no_space e))
 
 pub split_parts : (bs : List ℕ) (i : ℕ) → i < length bs → get_or bs i 0 ≡ 32 → bs ≡ take i bs ++ 32 ∷ drop (i + 1) bs

@@ -16,7 +16,8 @@ digit_below : (base b d : ℕ) → Some d ≡ digit_in base b → d < base
 digit_below base b d e = then_below (hex_digit b) base d (sym e)
 
 -- the number does not get smaller with more digits
-least_after : (base n m : ℕ) (o : Option ℕ) (f : ℕ → Option ℕ) → ((d : ℕ) → o ≡ Some d → d < base) → ((d : ℕ) → o ≡ Some d → f d ≡ Some m → n * base + d ≤ m) → and_then o f ≡ Some m → n ≤ m
+least_after : (base n m : ℕ) (o : Option ℕ) (f : ℕ → Option ℕ) → ((d : ℕ) → o ≡ Some d → d < base) → ((d : ℕ) → o ≡ Some d → f d ≡ Some m → n * base + d ≤ m)
+    → and_then o f ≡ Some m → n ≤ m
 least_after base n m None f small later e = absurd (grind arith)
 least_after base n m (Some d) f small later e =
     let some : 1 ≤ base = omega (arith, small d refl) in
@@ -25,30 +26,40 @@ least_after base n m (Some d) f small later e =
 numeral_least : (base n m : ℕ) (bs : List ℕ) → numeral_after base n bs ≡ Some m → n ≤ m
 numeral_least base n m [] e = omega (arith, same_Some n m e)
 numeral_least base n m (b ∷ bs) e =
-    least_after base n m (digit_in base b) (λ d. numeral_after base (n * base + d) bs) (λ d is. digit_below base b d (sym is)) (λ d is later. numeral_least base (n * base + d) m bs later) e
+    least_after base n m (digit_in base b) (λ d. numeral_after base (n * base + d) bs)
+      (λ d is. digit_below base b d (sym is)) (λ d is later. numeral_least base (n * base + d) m bs later) e
 
 not_below : (o : Option ℕ) (bound n : ℕ) → ((m : ℕ) → o ≡ Some m → n ≤ m) → bound ≤ n → and_then o (below bound) ≡ None
 not_below None bound n least h = refl
 not_below (Some m) bound n least h = let l = least m refl in grind (arith, nat_tests)
 
 -- what a byte does to the number that is read: with a digit there is one more, and without one, or past the bound, none
-pub one_more : (bound base n d : ℕ) (bs : List ℕ) (i : ℕ) → i < length bs → Some d ≡ digit_in base (get_or bs i 0) → and_then (numeral_after base n (drop i bs)) (below bound) ≡ and_then (numeral_after base (n * base + d) (drop (i + 1) bs)) (below bound)
-one_more bound base n d bs i h e =
-    at_drop_more (λ l. and_then (numeral_after base n l) (below bound)) bs i 0 h ∙ ap (λ o. and_then (and_then o (λ d. numeral_after base (n * base + d) (drop (i + 1) bs))) (below bound)) (sym e)
+by_byte : (bound base n : ℕ) (bs : List ℕ) (i : ℕ) (o : Option ℕ) → i < length bs → o ≡ digit_in base (get_or bs i 0)
+    → and_then (numeral_after base n (drop i bs)) (below bound) ≡ and_then (and_then o (λ d. numeral_after base (n * base + d) (drop (i + 1) bs))) (below bound)
+by_byte bound base n bs i o h e =
+    at_drop_more (λ l. and_then (numeral_after base n l) (below bound)) bs i 0 h
+    ∙ ap (λ o. and_then (and_then o (λ d. numeral_after base (n * base + d) (drop (i + 1) bs))) (below bound)) (sym e)
 
-pub no_digit : (bound base n : ℕ) (bs : List ℕ) (i : ℕ) → i < length bs → None ≡ digit_in base (get_or bs i 0) → and_then (numeral_after base n (drop i bs)) (below bound) ≡ None
-no_digit bound base n bs i h e =
-    at_drop_more (λ l. and_then (numeral_after base n l) (below bound)) bs i 0 h ∙ ap (λ o. and_then (and_then o (λ d. numeral_after base (n * base + d) (drop (i + 1) bs))) (below bound)) (sym e)
+pub one_more : (bound base n d : ℕ) (bs : List ℕ) (i : ℕ) → i < length bs → Some d ≡ digit_in base (get_or bs i 0)
+    → and_then (numeral_after base n (drop i bs)) (below bound) ≡ and_then (numeral_after base (n * base + d) (drop (i + 1) bs)) (below bound)
+one_more bound base n d bs i h e = by_byte bound base n bs i (Some d) h e
 
-pub no_sum : (bound base n d : ℕ) (bs : List ℕ) (i : ℕ) → i < length bs → Some d ≡ digit_in base (get_or bs i 0) → bound ≤ n * base + d → and_then (numeral_after base n (drop i bs)) (below bound) ≡ None
+pub no_digit : (bound base n : ℕ) (bs : List ℕ) (i : ℕ) → i < length bs → None ≡ digit_in base (get_or bs i 0)
+    → and_then (numeral_after base n (drop i bs)) (below bound) ≡ None
+no_digit bound base n bs i h e = by_byte bound base n bs i None h e
+
+pub no_sum : (bound base n d : ℕ) (bs : List ℕ) (i : ℕ) → i < length bs → Some d ≡ digit_in base (get_or bs i 0) → bound ≤ n * base + d
+    → and_then (numeral_after base n (drop i bs)) (below bound) ≡ None
 no_sum bound base n d bs i h e l =
-    one_more bound base n d bs i h e ∙ not_below (numeral_after base (n * base + d) (drop (i + 1) bs)) bound (n * base + d) (λ m. numeral_least base (n * base + d) m (drop (i + 1) bs)) l
+    one_more bound base n d bs i h e
+    ∙ not_below (numeral_after base (n * base + d) (drop (i + 1) bs)) bound (n * base + d) (λ m. numeral_least base (n * base + d) m (drop (i + 1) bs)) l
 
 by_digit : (o : Option ℕ) (P : Type 0) → (None ≡ o → P) → ((d : ℕ) → Some d ≡ o → P) → P
 by_digit None P none some = none refl
 by_digit (Some d) P none some = some d refl
 
-pub no_product : (bound base n : ℕ) (bs : List ℕ) (i : ℕ) → i < length bs → bound ≤ n * base → and_then (numeral_after base n (drop i bs)) (below bound) ≡ None
+pub no_product : (bound base n : ℕ) (bs : List ℕ) (i : ℕ) → i < length bs → bound ≤ n * base
+    → and_then (numeral_after base n (drop i bs)) (below bound) ≡ None
 no_product bound base n bs i h l =
     by_digit (digit_in base (get_or bs i 0)) _ (no_digit bound base n bs i h) (λ d e. no_sum bound base n d bs i h e (omega arith))
 
@@ -60,7 +71,8 @@ all_read bound base n bs i h l =
 pub ruleset digit_steps = (one_more, no_digit, no_sum, no_product, all_read)
 
 -- digits write a number below the power of the base
-bound_after : (base n m k : ℕ) (o : Option ℕ) (f : ℕ → Option ℕ) → ((d : ℕ) → o ≡ Some d → d < base) → ((d : ℕ) → f d ≡ Some m → m < (n * base + d + 1) * base ^ k) → and_then o f ≡ Some m → m < (n + 1) * base ^ suc k
+bound_after : (base n m k : ℕ) (o : Option ℕ) (f : ℕ → Option ℕ) → ((d : ℕ) → o ≡ Some d → d < base)
+    → ((d : ℕ) → f d ≡ Some m → m < (n * base + d + 1) * base ^ k) → and_then o f ≡ Some m → m < (n + 1) * base ^ suc k
 bound_after base n m k None f small later e = absurd (grind arith)
 bound_after base n m k (Some d) f small later e =
     let most : n * base + d + 1 ≤ (n + 1) * base = omega (arith, small d refl, add-mul n 1 base) in
@@ -69,7 +81,8 @@ bound_after base n m k (Some d) f small later e =
 numeral_bound : (base n m : ℕ) (bs : List ℕ) → numeral_after base n bs ≡ Some m → m < (n + 1) * base ^ length bs
 numeral_bound base n m [] e = rw pow-zero (omega (arith, same_Some n m e))
 numeral_bound base n m (b ∷ bs) e =
-    bound_after base n m (length bs) (digit_in base b) (λ d. numeral_after base (n * base + d) bs) (λ d is. digit_below base b d (sym is)) (λ d. numeral_bound base (n * base + d) m bs) e
+    bound_after base n m (length bs) (digit_in base b) (λ d. numeral_after base (n * base + d) bs)
+      (λ d is. digit_below base b d (sym is)) (λ d. numeral_bound base (n * base + d) m bs) e
 
 short : (o : Option ℕ) → ((n : ℕ) → o ≡ Some n → n < 2 ^ 32) → and_then o (below (2 ^ 32)) ≡ o
 short None bound = refl
@@ -85,22 +98,27 @@ pub hex_word_is : (bs : List ℕ) → short_numeral 16 8 bs ≡ hex_word bs
 unfolding hex_word
 hex_word_is bs =
     let is_short = within 1 8 (length bs) in
-    cond_both is_short _ _ (λ o. o ≡ cond is_short (numeral 16 bs) None) (λ e. short (numeral 16 bs) (eight_digits_fit bs e) ∙ sym (cond-true is_short _ _ e)) (λ e. sym (cond-false is_short _ _ e))
+    cond_both is_short _ _ (λ o. o ≡ cond is_short (numeral 16 bs) None)
+      (λ e. short (numeral 16 bs) (eight_digits_fit bs e) ∙ sym (cond-true is_short _ _ e))
+      (λ e. sym (cond-false is_short _ _ e))
 
 -- one more value after those that there are, or in front of those to come
-pub moved : (xs : List ℕ) (w : ℕ) (o : Option (List ℕ)) → option_map (λ ws. (xs ++ w ∷ []) ++ ws) o ≡ option_map (λ ws. xs ++ ws) (option_map (λ ws. w ∷ ws) o)
+pub moved : (xs : List ℕ) (w : ℕ) (o : Option (List ℕ))
+    → option_map (λ ws. (xs ++ w ∷ []) ++ ws) o ≡ option_map (λ ws. xs ++ ws) (option_map (λ ws. w ∷ ws) o)
 moved xs w None = refl
 moved xs w (Some ws) = ap Some (append_assoc xs (w ∷ []) ws)
 
 -- one more pair of digits is one more byte
-pub one_byte : (xs ys left pair after : List ℕ) (b : ℕ) → left ≡ pair ++ after → length pair ≡ 2 → Some b ≡ hex_byte (get_or pair 0 0) (get_or pair 1 0) → ys ≡ xs ++ b ∷ [] → option_map (λ bs. ys ++ bs) (hex_pairs after) ≡ option_map (λ bs. xs ++ bs) (hex_pairs left)
+pub one_byte : (xs ys left pair after : List ℕ) (b : ℕ) → left ≡ pair ++ after → length pair ≡ 2 → Some b ≡ hex_byte (get_or pair 0 0) (get_or pair 1 0)
+    → ys ≡ xs ++ b ∷ [] → option_map (λ bs. ys ++ bs) (hex_pairs after) ≡ option_map (λ bs. xs ++ bs) (hex_pairs left)
 unfolding hex_pairs
 one_byte xs ys left [] after b is h e p = absurd (omega arith)
 one_byte xs ys left (c ∷ []) after b is h e p = absurd (omega arith)
 one_byte xs ys left (c ∷ d ∷ []) after b is h e p = rw (p, is, ← e) (moved xs b (hex_pairs after))
 one_byte xs ys left (c ∷ d ∷ f ∷ pair) after b is h e p = absurd (omega arith)
 
-pub no_byte : (left pair after : List ℕ) → left ≡ pair ++ after → length pair ≡ 2 → None ≡ hex_byte (get_or pair 0 0) (get_or pair 1 0) → hex_pairs left ≡ None
+pub no_byte : (left pair after : List ℕ) → left ≡ pair ++ after → length pair ≡ 2 → None ≡ hex_byte (get_or pair 0 0) (get_or pair 1 0)
+    → hex_pairs left ≡ None
 unfolding hex_pairs
 no_byte left [] after is h e = absurd (omega arith)
 no_byte left (c ∷ []) after is h e = absurd (omega arith)
@@ -108,7 +126,8 @@ no_byte left (c ∷ d ∷ []) after is h e = rw (is, ← e)
 no_byte left (c ∷ d ∷ f ∷ pair) after is h e = absurd (omega arith)
 
 -- a chunk of one digit is the last, and lacks its second
-pub odd_digit : (left pair after : List ℕ) → left ≡ pair ++ after → length pair ≡ min 2 (length left) → length pair ≢ 2 → 0 < length left → hex_pairs left ≡ None
+pub odd_digit : (left pair after : List ℕ) → left ≡ pair ++ after → length pair ≡ min 2 (length left) → length pair ≢ 2 → 0 < length left
+    → hex_pairs left ≡ None
 unfolding hex_pairs
 odd_digit [] pair after is h n l = absurd (omega arith)
 odd_digit (c ∷ []) pair after is h n l = refl

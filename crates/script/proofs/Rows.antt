@@ -10,7 +10,8 @@ use Rattle.script_text.proofs.Rows.{nothing_said, call_said}
 use Rattle.script.specs.Seen.{among}
 use Rattle.script.specs.Lines.{Meaning, says_nothing, not_understood, call_encode, call_take, or_not, encode_row, bare_row, codeword_row, call_row, call, meaning}
 
-encoded : (o : Option ℕ) (p : Option (List ℕ)) → or_not (and_then o (λ c. option_map (call_encode c) p)) ≡ among (message.or_not (and_then o (λ c. option_map (message.call_encode c) p)))
+encoded : (o : Option ℕ) (p : Option (List ℕ))
+    → or_not (and_then o (λ c. option_map (call_encode c) p)) ≡ among (message.or_not (and_then o (λ c. option_map (message.call_encode c) p)))
 encoded None p = refl
 encoded (Some c) None = refl
 encoded (Some c) (Some ws) = refl
@@ -25,7 +26,8 @@ unfolding bare_row message.bare_row
 same_take [] = refl
 same_take (f ∷ fs) = refl
 
-by_name : (a b c : Bool) (x y z : Meaning) (v w : message.Meaning) → c ≡ false → x ≡ among v → y ≡ among w → cond a x (cond b y (cond c z not_understood)) ≡ among (cond a v (cond b w message.not_understood))
+by_name : (a b c : Bool) (x y z : Meaning) (v w : message.Meaning) → c ≡ false → x ≡ among v → y ≡ among w
+    → cond a x (cond b y (cond c z not_understood)) ≡ among (cond a v (cond b w message.not_understood))
 by_name true b c x y z v w e p q = p
 by_name false true c x y z v w e p q = q
 by_name false false true x y z v w e p q = absurd (cc)
@@ -35,7 +37,8 @@ by_name false false false x y z v w e p q = refl
 pub other_name : (name : List ℕ) (rest : List (List ℕ)) → bytes_eq name (codes "codeword") ≡ false → call_row name rest ≡ among (message.call_row name rest)
 unfolding call_row message.call_row
 other_name name rest e =
-    by_name (bytes_eq name (codes "encode")) (bytes_eq name (codes "take")) (bytes_eq name (codes "codeword")) _ _ (codeword_row rest) _ _ e (same_encode rest) (same_take rest)
+    by_name (bytes_eq name (codes "encode")) (bytes_eq name (codes "take")) (bytes_eq name (codes "codeword"))
+      _ _ (codeword_row rest) _ _ e (same_encode rest) (same_take rest)
 
 pub codeword_name : (name : List ℕ) (rest : List (List ℕ)) → bytes_eq name (codes "codeword") ≡ true → call_row name rest ≡ codeword_row rest
 unfolding call_row

@@ -1,9 +1,9 @@
 -- What a line of a script says. Assumes nothing.
-use Rattle.std.specs.Prelude.{ℕ, Bool, true, cond, List, [], ◌∷◌, Some, None, codes, Option, ◌==◌}
+use Rattle.std.specs.Prelude.{ℕ, cond, List, [], ◌∷◌, Some, None, codes, Option}
 use Prim.Native.String.{String}
 use Rattle.std.specs.Option.{option_map}
 use Rattle.std.specs.Str.{bytes_eq}
-use Rattle.numerals.specs.Numerals.{and_then, hex_word, code_text}
+use Rattle.numerals.specs.Numerals.{and_then, code_text}
 use Rattle.line_fields.specs.Fields.{fields, two_fields, without_return}
 use Rattle.script_text.specs.Lines.{hex_words, quiet}
 use Rattle.script.specs.declared.given.Kind.{Kind}

@@ -10,7 +10,8 @@ abbrev said_by : {M : Type 0} → M → (List (List ℕ) → M) → Option (List
 said_by nothing f None = nothing
 said_by nothing f (Some fs) = f fs
 
-pub one_word : (xs ys field : List ℕ) (w : ℕ) (fs : List (List ℕ)) → hex_word field ≡ Some w → ys ≡ xs ++ w ∷ [] → option_map (λ ws. ys ++ ws) (hex_words fs) ≡ option_map (λ ws. xs ++ ws) (hex_words (field ∷ fs))
+pub one_word : (xs ys field : List ℕ) (w : ℕ) (fs : List (List ℕ)) → hex_word field ≡ Some w → ys ≡ xs ++ w ∷ []
+    → option_map (λ ws. ys ++ ws) (hex_words fs) ≡ option_map (λ ws. xs ++ ws) (hex_words (field ∷ fs))
 unfolding hex_words
 one_word xs ys field w fs e p = rw (p, e) (moved xs w (hex_words fs))
 
@@ -33,16 +34,19 @@ quiet_some [] h = absurd (omega arith)
 quiet_some (b ∷ bs) h = refl
 
 -- what is said of a line is what is said of its call, if it has one
-said : {M : Type 0} (line : List ℕ) (nothing : M) (f : List (List ℕ) → M) → cond (quiet (without_return line)) nothing (f (fields (without_return line))) ≡ said_by nothing f (call_text line)
+said : {M : Type 0} (line : List ℕ) (nothing : M) (f : List (List ℕ) → M)
+    → cond (quiet (without_return line)) nothing (f (fields (without_return line))) ≡ said_by nothing f (call_text line)
 unfolding call_text
 said line nothing f =
     let fs = fields (without_return line) in
     elim (quiet (without_return line)) as (λ q. cond q nothing (f fs) ≡ said_by nothing f (cond q None (Some fs))) [ true ↦ refl | false ↦ refl ]
 
-pub nothing_said : {M : Type 0} (line : List ℕ) (nothing : M) (f : List (List ℕ) → M) → None ≡ call_text line → cond (quiet (without_return line)) nothing (f (fields (without_return line))) ≡ nothing
+pub nothing_said : {M : Type 0} (line : List ℕ) (nothing : M) (f : List (List ℕ) → M) → None ≡ call_text line
+    → cond (quiet (without_return line)) nothing (f (fields (without_return line))) ≡ nothing
 nothing_said line nothing f e = said line nothing f ∙ ap (said_by nothing f) (sym e)
 
-pub call_said : {M : Type 0} (line : List ℕ) (nothing : M) (f : List (List ℕ) → M) (fs : List (List ℕ)) → Some fs ≡ call_text line → cond (quiet (without_return line)) nothing (f (fields (without_return line))) ≡ f fs
+pub call_said : {M : Type 0} (line : List ℕ) (nothing : M) (f : List (List ℕ) → M) (fs : List (List ℕ)) → Some fs ≡ call_text line
+    → cond (quiet (without_return line)) nothing (f (fields (without_return line))) ≡ f fs
 call_said line nothing f fs e = said line nothing f ∙ ap (said_by nothing f) (sym e)
 
 pub no_call : (line : List ℕ) → None ≡ call_text line → meaning line ≡ says_nothing
