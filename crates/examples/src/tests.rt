@@ -1,7 +1,7 @@
 mod bursts;
 mod sizes;
 
-use bch::MESSAGE_WORDS;
+use bch::{MESSAGE_WORDS, lay_number, number_of};
 use codes::{Word, encode, take_message};
 use refusals::{Refusal, outcome_number};
 use std::process::Abort;
@@ -16,13 +16,7 @@ const B: [u32; MESSAGE_WORDS] = [
 
 // The parity places as a number, place i at bit i.
 fn low_places(word: &Word, count: usize) -> u32 {
-    let mut number = 0u32;
-    for (i, bit) in word.bits().iter().enumerate().take(count) {
-        if *bit && i < 32 {
-            number |= 1 << i;
-        }
-    }
-    number
+    number_of(&word.bits()[..count.min(32)])
 }
 
 // Encodes, compares the parity, and takes the message out again.
@@ -48,6 +42,14 @@ fn messages_go_in_and_out(rt: HostRuntime) {
     goes_through(&rt, B, 2, 16, 0x5EE3);
     goes_through(&rt, A, 3, 24, 0x044C0A);
     goes_through(&rt, B, 3, 24, 0x730F60);
+}
+
+#[test]
+fn numbers_stand_in_places(rt: HostRuntime) {
+    let mut places = [true; 5];
+    lay_number(6, &mut places);
+    assert!(rt; places == [false, true, true, false, false]);
+    assert_eq!(rt; number_of(&places), 6);
 }
 
 #[test]
