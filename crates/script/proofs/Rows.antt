@@ -38,7 +38,7 @@ pub other_name : (name : List ℕ) (rest : List (List ℕ)) → bytes_eq name (c
 unfolding call_row message.call_row
 other_name name rest e =
     by_name (bytes_eq name (codes "encode")) (bytes_eq name (codes "take")) (bytes_eq name (codes "codeword"))
-      _ _ (codeword_row rest) _ _ e (same_encode rest) (same_take rest)
+    _ _ (codeword_row rest) _ _ e (same_encode rest) (same_take rest)
 
 pub codeword_name : (name : List ℕ) (rest : List (List ℕ)) → bytes_eq name (codes "codeword") ≡ true → call_row name rest ≡ codeword_row rest
 unfolding call_row

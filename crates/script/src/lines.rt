@@ -1,7 +1,7 @@
 // The lines of a script: those of `script_text`, and the codeword lines.
 ghost use Rattle.std.specs.Prelude.{◌≡◌};
 ghost use Rattle.line_fields.specs.Left.{left};
-ghost use Rattle.line_fields.specs.Reads.{Tells};
+ghost use Rattle.line_fields.specs.Reads.{ReadsAs};
 ghost use Rattle.script.specs.Lines.{not_understood, word_code, codeword_row, call, meaning};
 ghost use Rattle.script.specs.Seen.{says, line_says};
 
@@ -34,7 +34,7 @@ fn word_code(fields: Fields) -> Option<u32>
 // codeword word CODE, or codeword KIND CODE BYTES
 #[tactic(auto, unfolding(crate::specs::Lines::codeword_row))]
 fn codeword_row(heap: Global, fields: Fields) -> Result<Call, Unread>
-    ensures { Tells not_understood says (codeword_row (left fields.entry)) result }
+    ensures { ReadsAs not_understood says (codeword_row (left fields.entry)) result }
 {
     if let Some(code) = word_code(fields) {
         return Ok(Call::CodewordOfWord { code });
@@ -45,7 +45,7 @@ fn codeword_row(heap: Global, fields: Fields) -> Result<Call, Unread>
 // A call by its fields, the first of which is its name.
 #[tactic(auto, using(crate::proofs::Rows::codeword_name, crate::proofs::Rows::other_name))]
 fn read_call(heap: Global, fields: Fields) -> Result<Call, Unread>
-    ensures { Tells not_understood says (call (left fields.entry)) result }
+    ensures { ReadsAs not_understood says (call (left fields.entry)) result }
 {
     let mut rest = fields;
     let name = rest.next().ok_or(Unread::NotUnderstood)?;
@@ -60,7 +60,7 @@ fn read_call(heap: Global, fields: Fields) -> Result<Call, Unread>
 // Reads a line of a script, or gives `None` where it says nothing.
 #[tactic(auto, using(crate::proofs::Rows::no_call, crate::proofs::Rows::one_call))]
 pub fn parse(heap: Global, line: &[u8]) -> Result<Option<Call>, Unread>
-    ensures { Tells not_understood line_says (meaning line.now) result }
+    ensures { ReadsAs not_understood line_says (meaning line.now) result }
 {
     match call_fields(line) {
         Some(fields) => Ok(Some(read_call(heap, fields)?)),

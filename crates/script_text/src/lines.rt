@@ -2,7 +2,7 @@
 ghost use Rattle.std.specs.Prelude.{◌≡◌, vec_items};
 ghost use Rattle.std.specs.Option.{option_map};
 ghost use Rattle.line_fields.specs.Left.{left};
-ghost use Rattle.line_fields.specs.Reads.{Tells, Reads};
+ghost use Rattle.line_fields.specs.Reads.{ReadsAs, Reads};
 ghost use Rattle.script_text.specs.Lines.{not_understood, hex_words, encode_row, bare_row, call, call_text, quiet, meaning};
 ghost use Rattle.script_text.specs.Seen.{says, line_says};
 
@@ -34,8 +34,9 @@ fn words_left(heap: Global, fields: Fields) -> Result<Vec<u32>, Unread>
 // encode CODE WORD..
 #[tactic(auto, unfolding(crate::specs::Lines::encode_row))]
 fn encode_row(heap: Global, mut fields: Fields) -> Result<Call, Unread>
-    ensures { Tells not_understood says (encode_row (left fields.entry)) result }
+    ensures { ReadsAs not_understood says (encode_row (left fields.entry)) result }
 {
+    // A closure and not the function's name: the check finds no contract of another crate's function as a value.
     let code = fields
         .next()
         .and_then(|field| code_number(field))
@@ -47,7 +48,7 @@ fn encode_row(heap: Global, mut fields: Fields) -> Result<Call, Unread>
 // A call with no fields after its name.
 #[tactic(auto, unfolding(crate::specs::Lines::bare_row))]
 fn bare_row(call: Call, mut fields: Fields) -> Result<Call, Unread>
-    ensures { Tells not_understood says (bare_row (says call) (left fields.entry)) result }
+    ensures { ReadsAs not_understood says (bare_row (says call) (left fields.entry)) result }
 {
     match fields.next() {
         Some(_) => Err(Unread::NotUnderstood),
@@ -58,7 +59,7 @@ fn bare_row(call: Call, mut fields: Fields) -> Result<Call, Unread>
 // A call by its fields, the first of which is its name.
 #[tactic(auto, using(std::proofs::lemmas::Slice::Eq::text_from_reads), unfolding(crate::specs::Lines::call_row))]
 pub fn read_call(heap: Global, mut fields: Fields) -> Result<Call, Unread>
-    ensures { Tells not_understood says (call (left fields.entry)) result }
+    ensures { ReadsAs not_understood says (call (left fields.entry)) result }
 {
     match fields.next() {
         Some(b"encode") => encode_row(heap, fields),
@@ -91,7 +92,7 @@ pub fn call_fields(line: &[u8]) -> Option<Fields<'_>>
 // Reads a line of a script, or gives `None` where it says nothing.
 #[tactic(auto, using(crate::proofs::Rows::no_call, crate::proofs::Rows::one_call))]
 pub fn parse(heap: Global, line: &[u8]) -> Result<Option<Call>, Unread>
-    ensures { Tells not_understood line_says (meaning line.now) result }
+    ensures { ReadsAs not_understood line_says (meaning line.now) result }
 {
     match call_fields(line) {
         Some(fields) => Ok(Some(read_call(heap, fields)?)),
