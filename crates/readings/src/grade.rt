@@ -46,7 +46,7 @@ impl From<Class> for u8 {
 }
 
 impl Class {
-    // The class of a graded byte.
+    // The class of a graded byte, if it has one: by two of its bits, where `TryFrom<u8>` takes a class's number.
     pub fn of_byte(byte: u8) -> Option<Class>
         ensures { result ≡ graded_class byte }
     {
@@ -62,7 +62,7 @@ pub struct Grade {
 }
 
 impl Grade {
-    // The grade of a byte, if it has a class.
+    // The grade of a byte, if it has a class; an Option, since an unsound place is no error.
     pub fn of(byte: u8) -> Option<Grade>
         ensures { result ≡ where_sound (graded_place byte) (graded_strength byte) }
     {
