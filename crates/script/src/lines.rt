@@ -62,8 +62,5 @@ fn read_call(heap: Global, fields: Fields) -> Result<Call, Unread>
 pub fn parse(heap: Global, line: &[u8]) -> Result<Option<Call>, Unread>
     ensures { ReadsAs not_understood line_says (meaning line.now) result }
 {
-    match call_fields(line) {
-        Some(fields) => Ok(Some(read_call(heap, fields)?)),
-        None => Ok(None),
-    }
+    call_fields(line).map(|fields| read_call(heap, fields)).transpose()
 }

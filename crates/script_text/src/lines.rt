@@ -94,8 +94,5 @@ pub fn call_fields(line: &[u8]) -> Option<Fields<'_>>
 pub fn parse(heap: Global, line: &[u8]) -> Result<Option<Call>, Unread>
     ensures { ReadsAs not_understood line_says (meaning line.now) result }
 {
-    match call_fields(line) {
-        Some(fields) => Ok(Some(read_call(heap, fields)?)),
-        None => Ok(None),
-    }
+    call_fields(line).map(|fields| read_call(heap, fields)).transpose()
 }
