@@ -3,7 +3,7 @@ use Rattle.std.specs.Prelude.{Some, None, Option, vec_items}
 use Rattle.script_text.specs.Lines as message
 use Rattle.script_text.specs.Seen as message_seen
 use Rattle.script.specs.declared.lines.Call.{Call}
-use Rattle.script.specs.declared.lines.Call.TheVariants.{Message, Codeword, CodewordOfWord}
+use Rattle.script.specs.declared.lines.Call.TheVariants.{Other, Codeword, CodewordOfWord}
 use Rattle.script.specs.Lines.{Meaning, says_nothing, not_understood, call_encode, call_take, call_codeword, call_codeword_of_word}
 
 -- what a line with no codeword says, among all that a line can say
@@ -15,7 +15,7 @@ among message.call_take = call_take
 
 -- what a call says, its words and bytes as the lists of them
 abbrev pub says : Call → Meaning
-says (Message call) = among (message_seen.says call)
+says (Other call) = among (message_seen.says call)
 says (Codeword given) = call_codeword given.kind given.code (vec_items given.bytes)
 says (CodewordOfWord code) = call_codeword_of_word code
 

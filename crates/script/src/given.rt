@@ -19,11 +19,13 @@ pub enum Kind {
 #[derive(Debug, Drop)]
 pub struct Given {
     pub kind: Kind,
+    // A number and no Code: one that no code has is refused when the call is made, not when the line is read.
     pub code: u32,
     pub bytes: Vec<u8>,
 }
 
 // A field that is a KIND.
+// An Option, as code_number: the caller says what a field that does not fit means.
 #[tactic(auto, unfolding(crate::specs::Given::kind_text))]
 fn kind_of(field: &[u8]) -> Option<Kind>
     ensures { result ≡ kind_text field.now }

@@ -14,8 +14,10 @@ use std::alloc::Global;
 // What a line of a script asks for.
 #[derive(Debug, Drop)]
 pub enum Call {
-    Message(script_text::Call),
+    // A call with another name than codeword.
+    Other(script_text::Call),
     Codeword(Given),
+    // A number and no Code: one that no code has is refused when the call is made, not when the line is read.
     CodewordOfWord { code: u32 },
 }
 
@@ -53,7 +55,7 @@ fn read_call(heap: Global, fields: Fields) -> Result<Call, Unread>
     if field_is(name, b"codeword") {
         codeword_row(heap, rest)
     } else {
-        Ok(Call::Message(script_text::read_call(heap, fields)?))
+        Ok(Call::Other(script_text::read_call(heap, fields)?))
     }
 }
 
@@ -62,8 +64,5 @@ fn read_call(heap: Global, fields: Fields) -> Result<Call, Unread>
 pub fn parse(heap: Global, line: &[u8]) -> Result<Option<Call>, Unread>
     ensures { ReadsAs not_understood line_says (meaning line.now) result }
 {
-    match call_fields(line) {
-        Some(fields) => Ok(Some(read_call(heap, fields)?)),
-        None => Ok(None),
-    }
+    call_fields(line).map(|fields| read_call(heap, fields)).transpose()
 }

@@ -3,7 +3,7 @@ ghost use Rattle.std.specs.Prelude.{◌≡◌, vec_items};
 ghost use Rattle.std.specs.Option.{option_map};
 ghost use Rattle.line_fields.specs.Left.{left};
 ghost use Rattle.line_fields.specs.Reads.{ReadsAs, Reads};
-ghost use Rattle.script_text.specs.Lines.{not_understood, hex_words, encode_row, bare_row, call, call_text, quiet, meaning};
+ghost use Rattle.script_text.specs.Lines.{not_understood, hex_words, encode_row, call, call_text, quiet, meaning};
 ghost use Rattle.script_text.specs.Seen.{says, line_says};
 
 use line_fields::{Fields, Unread, without_return};
@@ -15,6 +15,7 @@ const COMMENT: u8 = b'#';
 // What a line of a script asks for.
 #[derive(Debug, Drop)]
 pub enum Call {
+    // A number and no Code: one that no code has is refused when the call is made, not when the line is read.
     Encode { code: u32, words: Vec<u32> },
     Take,
 }
@@ -45,25 +46,14 @@ fn encode_row(heap: Global, mut fields: Fields) -> Result<Call, Unread>
     Ok(Call::Encode { code, words })
 }
 
-// A call with no fields after its name.
-#[tactic(auto, unfolding(crate::specs::Lines::bare_row))]
-fn bare_row(call: Call, mut fields: Fields) -> Result<Call, Unread>
-    ensures { ReadsAs not_understood says (bare_row (says call) (left fields.entry)) result }
-{
-    match fields.next() {
-        Some(_) => Err(Unread::NotUnderstood),
-        None => Ok(call),
-    }
-}
-
 // A call by its fields, the first of which is its name.
-#[tactic(auto, using(std::proofs::lemmas::Slice::Eq::text_from_reads), unfolding(crate::specs::Lines::call_row))]
+#[tactic(auto, using(std::proofs::lemmas::Slice::Eq::text_from_reads), unfolding(crate::specs::Lines::call_row, crate::specs::Lines::bare_row))]
 pub fn read_call(heap: Global, mut fields: Fields) -> Result<Call, Unread>
     ensures { ReadsAs not_understood says (call (left fields.entry)) result }
 {
     match fields.next() {
         Some(b"encode") => encode_row(heap, fields),
-        Some(b"take") => bare_row(Call::Take, fields),
+        Some(b"take") if fields.next().is_none() => Ok(Call::Take),
         _ => Err(Unread::NotUnderstood),
     }
 }
@@ -94,8 +84,5 @@ pub fn call_fields(line: &[u8]) -> Option<Fields<'_>>
 pub fn parse(heap: Global, line: &[u8]) -> Result<Option<Call>, Unread>
     ensures { ReadsAs not_understood line_says (meaning line.now) result }
 {
-    match call_fields(line) {
-        Some(fields) => Ok(Some(read_call(heap, fields)?)),
-        None => Ok(None),
-    }
+    call_fields(line).map(|fields| read_call(heap, fields)).transpose()
 }
