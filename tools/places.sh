@@ -9,14 +9,16 @@ point() {
     case $1 in
     1)  say '1a own enums';                          find_in '\benum '
         say '1b an Option inside a Result';           find_in 'Result<Option<'
-        say '1c a number for a kind';                 find_in '\b(number|code): u(8|32)\b|const [A-Z_]+: u8 = [0-9]+;'
-        say '1d a flag passed on';                    find_in '\b[a-z_]+: bool\b' ;;
+        say '1c a number for a kind';                 find_in '\b(number|code): u(8|32)\b|const [A-Z_]+: u(8|32) = [0-9]+;'
+        say '1d a flag passed on';                    find_in '\b[a-z_]+: bool\b'
+        say '1e filled by the callee, beside an answer'; find_in '&mut \[?(Word|u8|u32).*-> Result<\(\), Refusal>' ;;
     2)  say '2 places that share six lines or more (read as .rs, since the tool passes over .rt)'
         tmp=$(mktemp -d); src | while read -r f; do mkdir -p "$tmp/$(dirname "$f")"; cp "$f" "$tmp/${f%.rt}.rs"; done
         duplicates --repo "$tmp" --most 200 --min-lines 6; rm -rf "$tmp" ;;
     3)  say '3a while, loop';                         find_in '\b(while|loop)\b'
         say '3b for over a range of numbers';         find_in '\bfor .* in [^{]*\.\.'
-        say '3c other for';                           find_in '\bfor .* in ' | grep -v '\.\.' ;;
+        say '3c other for';                           find_in '\bfor .* in ' | grep -v '\.\.'
+        say '3d arrays made by index';                find_in 'from_fn\(' ;;
     4)  say '4a conversions';                         find_in 'fn (of|of_[a-z]+|number|outcome_number|[a-z_]*_of|byte_at)\b'
         say '4b printing';                            find_in 'fn (push_[a-z_]+|[a-z]+_text|last_digit)\b'
         say '4c reading digits, equality, suffixes';  find_in 'fn (hex_digit|digit_in|is|field_is|without_[a-z]+)\b'
