@@ -1,11 +1,8 @@
-use Rattle.std.proofs.Common.{◌≡◌, ◌+◌, ◌*◌, ◌^◌, ◌<◌, ◌≤◌, Bool, List, ◌++◌, [], ◌∷◌, length, refl, arith, pow_mono}
+use Rattle.std.proofs.Common.{◌≡◌, ◌+◌, ◌*◌, ◌^◌, ◌<◌, ◌≤◌, Bool, List, ◌++◌, [], ◌∷◌, length, arith, pow_mono}
 use Rattle.std.proofs.lemmas.Grind.{common_steps}
 use Rattle.galois.specs.Polynomials.{digit, number}
 use Rattle.galois.proofs.Words.{number_lt, byte_digit, digit_lt}
 use Rattle.bch.proofs.bits.number_of.Goals as goal
-
-pub loop-place-init : goal.loop-place-init
-loop-place-init c = ([], grind (arith, common_steps), refl)
 
 -- one place more fits where the whole list does
 fits : (places rest more done : List Bool) (place : Bool) → length places ≤ 32 → places ≡ rest ++ done
