@@ -31,7 +31,8 @@ pub record LaidTo (m : List ℕ) (from n : ℕ) (old new : List Bool) : Type 0 w
 
 -- one word more, laid into the k places that are its own
 pub laid_more : (m : List ℕ) (from n k : ℕ) (old new word : List Bool) → k ≡ word_bits → from + word_bits * n + k ≤ length new
-    → word ≡ bits (length (mid_of (from + word_bits * n) k new)) (get_or m n 0) → LaidTo m from n old new → LaidTo m from (n + 1) old (put_mid (from + word_bits * n) k new word)
+    → word ≡ bits (length (mid_of (from + word_bits * n) k new)) (get_or m n 0) → LaidTo m from n old new
+    → LaidTo m from (n + 1) old (put_mid (from + word_bits * n) k new word)
 laid_more m from n k old new word wide room is laid = record {
   long = put_length start k new word room count ∙ laid.long;
   placed = λ i b h hb. at i b h hb (cases_lt i n);

@@ -14,30 +14,34 @@ use Rattle.codes.specs.declared.word.Word.{Word}
 use Rattle.codes.specs.Steps.{Read}
 use Rattle.codes.specs.Calls.{Takes}
 
+-- a part of a word, place by place
+part_at : (w : List Bool) (from n k : ℕ) → k < n → get_or (take n (drop from w)) k false ≡ get_or w (from + k) false
+part_at w from n k h = get_or-take n (drop from w) k false h ∙ get_or-drop from w k false
+
+not_one : (b : Bool) → beq b true ≡ false → b ≡ false
+not_one true e = e
+not_one false e = refl
+
 -- what an answer says that tells whether a place from `from` on holds one
-pub ones_from : (w : List Bool) (from n : ℕ) (some : Bool) → from + n ≡ length w → length w ≡ places → IsAnyAnswer (λ b t. beq b true ≡ t) (take n (drop from w)) some
+pub ones_from : (w : List Bool) (from n : ℕ) (some : Bool) → from + n ≡ length w → length w ≡ places
+    → IsAnyAnswer (λ b t. beq b true ≡ t) (take n (drop from w)) some
     → (not some ≡ true → Empty from w) × (not some ≡ false → Empty from w → ⊥)
 ones_from w from n true whole long one = (
   λ e. absurd (false≢true e),
   λ _ none.
       let k = one.0 in
       let short : k < n = omega (arith, one.1, length-take n (drop from w)) in
-      let is = rw (get_or-take n (drop from w) k false short ∙ get_or-drop from w k false) at (one.2 false) in
+      let is = rw (part_at w from n k short) at (one.2 false) in
       false≢true (rw (none (from + k) (omega arith) (omega arith)) at is),
 )
 ones_from w from n false whole long none = (
   λ _ i lo hi.
       let k : ℕ = i - from in
       let back : from + k ≡ i = omega arith in
-      let short : k < n = omega arith in
-      let is = rw (get_or-take n (drop from w) k false short ∙ get_or-drop from w k false ∙ ap (λ j. get_or w j false) back) at (none k false (omega arith) (omega (arith, length-take-le n (drop from w), length-drop from w))) in
-      not_one (get_or w i false) is,
+      let short : k < length (take n (drop from w)) = omega (arith, length-take-le n (drop from w), length-drop from w) in
+      not_one (get_or w i false) (rw (part_at w from n k (omega arith) ∙ ap (λ j. get_or w j false) back) at (none k false (omega arith) short)),
   λ e. absurd (false≢true (sym e)),
 )
-  where
-    not_one : (b : Bool) → beq b true ≡ false → b ≡ false
-    not_one true e = e
-    not_one false e = refl
 
 -- the words that are read are the carried ones
 pub carried_words : (k : Code) (w : List Bool) (m read : List ℕ) → length w ≡ places → Read w (parity k) read → Carries k m w → m ≡ read

@@ -24,6 +24,7 @@ returns c =
     let message = c.is_message.ensures.yes c.if-not-is_message.false in
     let empty = c.spare_is_empty.ensures.yes c.if-not-spare_is_empty.false in
     record {
-      call = accept_take word c.args.message.now c.words_in-words.result (read_carries word.code word.bits c.words_in-words.result word.long c.words_in-words.ensures message empty);
+      call = accept_take word c.args.message.now c.words_in-words.result
+          (read_carries word.code word.bits c.words_in-words.result word.long c.words_in-words.ensures message empty);
       in_after_out = in_after_out;
     }
