@@ -5,7 +5,7 @@ ghost use Rattle.bch.specs.Messages.{Empty, spare_from};
 ghost use Rattle.codes.specs.Steps.{Read};
 ghost use Rattle.codes.specs.Calls.{Takes, InAfterOut};
 
-use crate::message::is_message;
+use crate::message::message_in;
 use crate::word::Word;
 use bch::{MESSAGE_BITS, MESSAGE_WORDS, WORD_BITS, number_of};
 use refusals::Refusal;
@@ -37,9 +37,10 @@ pub fn take_message(word: &Word, message: &mut [u32; MESSAGE_WORDS]) -> Result<(
     ensures in_after_out { InAfterOut }
 {
     let words = words_in(word);
-    if !spare_is_empty(word) || !is_message(&words) {
+    let carried = message_in(&words).ok_or(Refusal::NoMessage)?;
+    if !spare_is_empty(word) {
         return Err(Refusal::NoMessage);
     }
-    *message = words;
+    *message = *carried;
     Ok(())
 }
