@@ -15,12 +15,9 @@ use std::array;
 fn words_in(word: &Word) -> [u32; MESSAGE_WORDS]
     ensures { Read word.now.bits (parity word.now.code) result }
 {
-    let bits = word.bits();
     let from = word.code().parity();
-    array::from_fn(|i| {
-        let at = from + WORD_BITS * i;
-        number_of(&bits[at..at + WORD_BITS])
-    })
+    let (words, _) = word.bits()[from..from + MESSAGE_BITS].as_chunks::<WORD_BITS>();
+    array::from_fn(|i| number_of(&words[i]))
 }
 
 // Whether the places above those of the message are empty.
