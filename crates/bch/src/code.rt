@@ -2,7 +2,7 @@
 #[derive(Clone, Copy, PartialEq, Eq, Debug)]
 pub enum Code {
     // BCH (255,239)
-    Two,
+    Two = 2,
     // BCH (255,231)
-    Three,
+    Three = 3,
 }

@@ -25,10 +25,7 @@ impl From<Code> for u32 {
     ghost from_gives = { λ code number. number ≡ code_number code };
 
     fn from(code: Code) -> u32 {
-        match code {
-            Code::Two => 2,
-            Code::Three => 3,
-        }
+        code as u32
     }
 }
 

@@ -3,3 +3,4 @@ pub mod Deciding
 pub mod Inverse
 pub mod Reading
 pub mod Laying
+pub mod Chunks

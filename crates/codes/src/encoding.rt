@@ -2,7 +2,7 @@
 ghost use Rattle.codes.specs.Calls.{Encodes, OutAfterIn};
 
 use crate::division::{divide, lay_parity};
-use crate::message::{is_message, lay_message};
+use crate::message::{lay_message, message_in};
 use crate::word::Word;
 use bch::{Code, PLACES};
 use refusals::Refusal;
@@ -13,11 +13,9 @@ pub fn encode(words: &[u32], number: u32, word: &mut Word) -> Result<(), Refusal
     ensures out_after_in { OutAfterIn }
 {
     let code = Code::try_from(number)?;
-    if !is_message(words) {
-        return Err(Refusal::NoMessage);
-    }
+    let message = message_in(words).ok_or(Refusal::NoMessage)?;
     let mut bits = [false; PLACES];
-    lay_message(words, code, &mut bits);
+    lay_message(message, code, &mut bits);
     let rest = divide(&bits, code);
     lay_parity(rest, code, &mut bits);
     word.fill(code, &bits);

@@ -1,7 +1,7 @@
 // Messages as words, and as bits in their places.
-ghost use Rattle.std.specs.Prelude.{◌≡◌, true, false, length};
+ghost use Rattle.std.specs.Prelude.{◌≡◌, MatchOption};
 ghost use Rattle.bch.specs.Codes.{parity};
-ghost use Rattle.bch.specs.Messages.{message_words, Message};
+ghost use Rattle.bch.specs.Messages.{Message};
 ghost use Rattle.codes.specs.Steps.{Laid};
 
 use bch::{Code, MESSAGE_WORDS, PLACES, WORD_BITS, lay_number};
@@ -9,19 +9,22 @@ use bch::{Code, MESSAGE_WORDS, PLACES, WORD_BITS, lay_number};
 // A word's kind is its top two bits.
 const KIND_SHIFT: u32 = 30;
 
+// A number and no enum: of the four kinds only this one is asked for until the export is built.
 const MESSAGE_KIND: u32 = 1;
 
-// Whether the words are a message.
-pub fn is_message(words: &[u32]) -> bool
-    ensures yes { result ≡ true → Message words.now }
-    ensures no { result ≡ false → Message words.now → ⊥ }
+// The words as a message, where they are one.
+pub fn message_in(words: &[u32]) -> Option<&[u32; MESSAGE_WORDS]>
+    ensures { MatchOption result (Message words.now → ⊥) (λ message. (message.now ≡ words.now) × Message words.now) }
 {
-    words.len() == MESSAGE_WORDS && words.iter().all(|word| *word >> KIND_SHIFT == MESSAGE_KIND)
+    let message = words.as_array()?;
+    words
+        .iter()
+        .all(|word| *word >> KIND_SHIFT == MESSAGE_KIND)
+        .then_some(message)
 }
 
 // The message's bits written to their places, which stand above the parity places.
-pub fn lay_message(words: &[u32], code: Code, bits: &mut [bool; PLACES])
-    requires { length words.now ≡ message_words }
+pub fn lay_message(words: &[u32; MESSAGE_WORDS], code: Code, bits: &mut [bool; PLACES])
     ensures { Laid words.now (parity code) bits.old bits.new }
 {
     let from = code.parity();

@@ -5,7 +5,7 @@ ghost use Rattle.bch.specs.Messages.{Empty, spare_from};
 ghost use Rattle.codes.specs.Steps.{Read};
 ghost use Rattle.codes.specs.Calls.{Takes, InAfterOut};
 
-use crate::message::is_message;
+use crate::message::message_in;
 use crate::word::Word;
 use bch::{MESSAGE_BITS, MESSAGE_WORDS, WORD_BITS, number_of};
 use refusals::Refusal;
@@ -15,12 +15,9 @@ use std::array;
 fn words_in(word: &Word) -> [u32; MESSAGE_WORDS]
     ensures { Read word.now.bits (parity word.now.code) result }
 {
-    let bits = word.bits();
     let from = word.code().parity();
-    array::from_fn(|i| {
-        let at = from + WORD_BITS * i;
-        number_of(&bits[at..at + WORD_BITS])
-    })
+    let (words, _) = word.bits()[from..from + MESSAGE_BITS].as_chunks::<WORD_BITS>();
+    array::from_fn(|i| number_of(&words[i]))
 }
 
 // Whether the places above those of the message are empty.
@@ -37,9 +34,10 @@ pub fn take_message(word: &Word, message: &mut [u32; MESSAGE_WORDS]) -> Result<(
     ensures in_after_out { InAfterOut }
 {
     let words = words_in(word);
-    if !spare_is_empty(word) || !is_message(&words) {
+    let carried = message_in(&words).ok_or(Refusal::NoMessage)?;
+    if !spare_is_empty(word) {
         return Err(Refusal::NoMessage);
     }
-    *message = words;
+    *message = *carried;
     Ok(())
 }

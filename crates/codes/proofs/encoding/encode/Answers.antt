@@ -10,18 +10,20 @@ use Rattle.codes.proofs.encoding.encode.Goals.{After-lay_parity}
 pub returns-in_err-code-clause-out_after_in : goal.returns-in_err-code-clause-out_after_in
 returns-in_err-code-clause-out_after_in c = out_after_in
 
-pub returns-then-not-is_message-clause-out_after_in : goal.returns-then-not-is_message-clause-out_after_in
-returns-then-not-is_message-clause-out_after_in c = out_after_in
+pub returns-in_err-message-clause-out_after_in : goal.returns-in_err-message-clause-out_after_in
+returns-in_err-message-clause-out_after_in c = out_after_in
 
 message : (c : After-lay_parity) → Message c.args.words.now
-message c = c.is_message.ensures.yes c.if-not-is_message.false
+message c = (rw c.in_ok-message.ensures.ok_part at c.message_in.ensures).1
 
 -- the bits that the word is filled with
 filled : (c : After-lay_parity) → c.lay_parity.new.places ≡ encoding c.in_ok-code.code c.args.words.now
 filled c =
     let k = c.in_ok-code.code in
+    let is = rw c.in_ok-message.ensures.ok_part at c.message_in.ensures in
+    let laid = rw is.0 at c.lay_message.ensures in
     built k c.args.words.now c.lay_message.new.bits c.lay_parity.new.places c.divide-rest.result
-    (laid_payload k c.args.words.now c.lay_message.new.bits (message c) c.lay_message.array_long c.lay_message.ensures)
+    (laid_payload k c.args.words.now c.lay_message.new.bits (message c) c.lay_message.array_long laid)
     c.divide-rest.ensures.value c.lay_parity.ensures
 
 pub fill-requires : goal.fill-requires
