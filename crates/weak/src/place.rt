@@ -12,7 +12,7 @@ pub struct WeakPlace<S> {
     pub place: usize,
 }
 
-// Decides a tie between two places of equal strength.
+// Decides a tie between two places of equal strength. A function of its own, so that the tie rule stands in one place.
 #[tactic(auto, unfolding(crate::specs::Turns::tie))]
 fn wins_tie(place: usize, other: usize) -> bool
     ensures { result ≡ tie place other }
