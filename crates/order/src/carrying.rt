@@ -26,7 +26,8 @@ pub(crate) fn pass<E: Ordered + Copy>(
     slot: Option<E>,
     carried: Carried<E>,
 ) -> (Option<E>, Carried<E>)
-    ensures { (rest : List (Option E)) → carried_into (slot_at_most E.Ordered.at_most) carried (slot ∷ rest) ≡ result.0 ∷ carried_into (slot_at_most E.Ordered.at_most) result.1 rest }
+    ensures { (rest : List (Option E)) → carried_into (slot_at_most E.Ordered.at_most) carried (slot ∷ rest)
+        ≡ result.0 ∷ carried_into (slot_at_most E.Ordered.at_most) result.1 rest }
 {
     match carried {
         Carried::New(x) => {
