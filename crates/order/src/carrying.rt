@@ -6,6 +6,7 @@ ghost use Rattle.order.specs.Steps.{carried_into};
 use crate::ordered::Ordered;
 
 // What goes on to the next slot: the new element, still to be compared, or what the last slot held, to be moved on.
+// Not an Option alone: what was moved on is not compared again, so elements that are equal in the order keep their turn.
 #[derive(Drop)]
 pub(crate) enum Carried<E> {
     New(E),
@@ -16,10 +17,7 @@ pub(crate) enum Carried<E> {
 pub(crate) fn stays<E: Ordered>(slot: &Option<E>, x: &E) -> bool
     ensures { result ≡ slot_at_most E.Ordered.at_most slot.now (Some x.now) }
 {
-    match slot {
-        Some(element) => element.is_at_most(x),
-        None => false,
-    }
+    slot.as_ref().is_some_and(|element| element.is_at_most(x))
 }
 
 // Passes one slot: what stands in it then, and what goes on.
@@ -28,7 +26,8 @@ pub(crate) fn pass<E: Ordered + Copy>(
     slot: Option<E>,
     carried: Carried<E>,
 ) -> (Option<E>, Carried<E>)
-    ensures { (rest : List (Option E)) → carried_into (slot_at_most E.Ordered.at_most) carried (slot ∷ rest) ≡ result.0 ∷ carried_into (slot_at_most E.Ordered.at_most) result.1 rest }
+    ensures { (rest : List (Option E)) → carried_into (slot_at_most E.Ordered.at_most) carried (slot ∷ rest)
+        ≡ result.0 ∷ carried_into (slot_at_most E.Ordered.at_most) result.1 rest }
 {
     match carried {
         Carried::New(x) => {

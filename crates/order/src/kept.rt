@@ -1,4 +1,3 @@
-// Six single kept elements, in order; that they are single, and no array, is a rule of the project.
 ghost use Rattle.std.specs.Prelude.{[], ◌∷◌};
 ghost use Rattle.order.specs.Order.{InOrder};
 ghost use Rattle.order.specs.Slots.{slot_at_most};
@@ -10,6 +9,7 @@ mod methods;
 // How many are kept.
 pub const KEPT: usize = 6;
 
+// Six kept elements, in order. They are single, and no array, as is asked of this project: `offer` names each that it passes.
 #[derive(Drop)]
 pub struct Kept<E: Ordered> {
     first: Option<E>,

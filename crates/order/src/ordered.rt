@@ -1,7 +1,7 @@
-// Elements of one kind, compared by an order. No `Ord`: it wants `==` exactly where elements compare both ways, and two lost places
-// of different levels compare both ways and are not the same.
 ghost use Rattle.std.specs.Prelude.{◌≡◌, Bool, true, false};
 
+// Elements of one kind, compared by an order. No `Ord`: it wants `==` exactly where elements compare both ways, and two lost places
+// of different levels compare both ways and are not the same.
 pub trait Ordered {
     // the first stands no later than the second
     ghost at_most: { Self → Self → Bool };

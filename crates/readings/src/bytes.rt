@@ -14,7 +14,7 @@ pub struct Bytes<'a, S> {
 }
 
 impl<'a, S> Bytes<'a, S> {
-    // The reading over these bytes.
+    // The reading over these bytes. For this crate alone: each kind's own `new` says what the reading means.
     pub(crate) fn over(bytes: &'a [u8]) -> Bytes<'a, S>
         ensures { result.bytes.now ≡ bytes.now }
     {

@@ -46,7 +46,7 @@ impl From<Class> for u8 {
 }
 
 impl Class {
-    // The class of a graded byte, if it has one: by two of its bits, where `TryFrom<u8>` takes a class's number.
+    // The class of a graded byte. By name, as `Magnitude::of`: a class has numbers of its own, 0 to 2.
     pub fn of_byte(byte: u8) -> Option<Class>
         ensures { result ≡ graded_class byte }
     {
@@ -54,7 +54,7 @@ impl Class {
     }
 }
 
-// Equal grades have one class and one level; strengths are equal by their order, where all lost ones are.
+// A class with a level in it. `==` compares both; `is_at_most` calls all lost grades equal.
 #[derive(Clone, Copy, Debug, PartialEq, Eq)]
 pub struct Grade {
     pub class: Class,
@@ -62,7 +62,7 @@ pub struct Grade {
 }
 
 impl Grade {
-    // The grade of a byte, if it has a class; an Option, since an unsound place is no error.
+    // The grade of a byte, if it has a class. By name, as `Magnitude::of`: a byte holds a bit as well.
     pub fn of(byte: u8) -> Option<Grade>
         ensures { result ≡ where_sound (graded_place byte) (graded_strength byte) }
     {

@@ -15,6 +15,7 @@ pub type Graded<'a> = Bytes<'a, Grade>;
 
 impl<'a> Graded<'a> {
     // The reading over these bytes: what its places are, how strong they are, and how strengths compare.
+    // A constructor for each kind: it promises what the bytes mean, which a clause over S could only call S's own meaning.
     #[tactic(auto, unfolding(crate::specs::GradedBytes::graded_places))]
     pub fn new(bytes: &'a [u8]) -> Graded<'a>
         ensures places { ⟦<Graded<'a> as Hard>⟧.places result ≡ graded_places bytes.now }

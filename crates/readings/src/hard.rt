@@ -1,6 +1,6 @@
-// A hard reading: bits by place.
 ghost use Rattle.std.specs.Prelude.{◌≡◌, Bool, List, length, None, Option, slice_index_or};
 
+// A hard reading: bits by place.
 pub trait Hard {
     // its places, each unsound or a bit
     ghost places: { Self → List (Option Bool) };

@@ -7,6 +7,7 @@ ghost use Rattle.std.proofs.Common.{rules};
 use crate::strength::Strength;
 use order::Ordered;
 
+// No derived order beside this one: a strength has one order, the trait's.
 #[derive(Clone, Copy, Debug, PartialEq, Eq)]
 pub struct Magnitude {
     pub value: u8,

@@ -1,9 +1,10 @@
-// A kind of strength that a byte tells, beside its bit.
 ghost use Rattle.std.specs.Prelude.{◌≡◌, ℕ, Bool, Option};
 ghost use Rattle.readings.specs.Places.{where_sound};
 
 use crate::strength::Strength;
 
+// A kind of strength that a byte tells, beside its bit.
+// Two questions and no pair: the codeword test asks bits alone.
 pub trait Sample: Strength {
     // the place that a byte stands for: a bit, or unsound
     ghost place_of: { ℕ → Option Bool };

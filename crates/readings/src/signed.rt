@@ -15,6 +15,7 @@ pub type Signed<'a> = Bytes<'a, Magnitude>;
 
 impl<'a> Signed<'a> {
     // The reading over these bytes: what its places are, how strong they are, and how strengths compare.
+    // A constructor for each kind: it promises what the bytes mean, which a clause over S could only call S's own meaning.
     #[tactic(auto, unfolding(crate::specs::SignedBytes::signed_places))]
     pub fn new(bytes: &'a [u8]) -> Signed<'a>
         ensures places { ⟦<Signed<'a> as Hard>⟧.places result ≡ signed_places bytes.now }

@@ -1,10 +1,10 @@
-// A soft reading: a hard one that tells how strong the bit at each place is.
 ghost use Rattle.std.specs.Prelude.{◌≡◌, ℕ, None, slice_index_or};
 ghost use Rattle.readings.specs.Places.{where_sound};
 
 use crate::hard::Hard;
 use crate::strength::Strength;
 
+// A soft reading: a hard one that tells how strong the bit at each place is.
 pub trait Soft: Hard {
     type Kind: Strength;
 

@@ -1,5 +1,5 @@
-// A kind of strength: how reliable a bit is. Strengths of one kind are compared by their order, "at most as strong as"; two are
-// equal when they compare both ways.
 use order::Ordered;
 
+// A kind of strength: how reliable a bit is. Strengths of one kind are compared by their order, "at most as strong as"; two that
+// compare both ways are equal in strength.
 pub trait Strength: Ordered + Copy {}

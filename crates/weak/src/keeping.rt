@@ -15,6 +15,7 @@ use std::array;
 
 // Asks every place's strength once, and keeps the weakest. Every place is sound, so each has one.
 // By number: a reading is asked, and there is nothing to go through.
+// The burst is written out: as a ghost member of Soft with a default, an impl could give another, and the clause would say less.
 fn keep<R: Soft>(reading: &R) -> Kept<WeakPlace<R::Kind>>
     requires { Whole (R.places reading.now) }
     ensures { KeepsWeakest (burst R.Soft R.Kind.Ordered reading.now) (R.strengths reading.now) result }
@@ -28,7 +29,8 @@ fn keep<R: Soft>(reading: &R) -> Kept<WeakPlace<R::Kind>>
     least
 }
 
-// The places of what is kept.
+// The places of what is kept. By number, as the six are single; a slot of a whole reading is never empty, and 0 stands for
+// what an empty one would have.
 fn kept_places<S: Strength>(least: &Kept<WeakPlace<S>>) -> [usize; KEPT]
     ensures { result ≡ map place_in (slots least.now) }
 {

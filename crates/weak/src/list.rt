@@ -1,4 +1,6 @@
 // The places of a weak list; which they are, `weak_list` says.
+use order::KEPT;
+
 mod methods;
 
 #[derive(Clone, Copy, Debug, PartialEq, Eq)]
@@ -6,9 +8,9 @@ pub struct WeakList {
     places: Places,
 }
 
-// 2t places for each of the two codes.
+// 2t places for each of the two codes. No const parameter: the code is known only when the call is made.
 #[derive(Clone, Copy, Debug, PartialEq, Eq)]
 enum Places {
     Four([usize; 4]),
-    Six([usize; 6]),
+    Six([usize; KEPT]),
 }

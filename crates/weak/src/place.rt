@@ -12,7 +12,7 @@ pub struct WeakPlace<S> {
     pub place: usize,
 }
 
-// Decides a tie between two places of equal strength.
+// Decides a tie between two places of equal strength. A function of its own, so that the tie rule stands in one place.
 #[tactic(auto, unfolding(crate::specs::Turns::tie))]
 fn wins_tie(place: usize, other: usize) -> bool
     ensures { result ≡ tie place other }
@@ -25,7 +25,8 @@ impl<S: Strength> Ordered for WeakPlace<S> {
 
     ghost total = { turn_total (λ a b. S.Ordered.at_most a.strength b.strength) (λ a. a.place) (λ a b. S.Ordered.total a.strength b.strength) };
 
-    ghost transitive = { turn_transitive (λ a b. S.Ordered.at_most a.strength b.strength) (λ a. a.place) (λ a b c. S.Ordered.transitive a.strength b.strength c.strength) };
+    ghost transitive = { turn_transitive (λ a b. S.Ordered.at_most a.strength b.strength) (λ a. a.place)
+        (λ a b c. S.Ordered.transitive a.strength b.strength c.strength) };
 
     fn is_at_most(&self, other: &WeakPlace<S>) -> bool {
         self.strength.is_at_most(&other.strength)

@@ -2,10 +2,11 @@
 use crate::{equal_strengths, graded_bytes, least_sample, light_codeword};
 use bch::PLACES;
 use codes::{Word, encode};
-use order::Ordered;
+use order::{KEPT, Ordered};
 use readings::{Class, Grade, Graded, Hard, Magnitude, Signed, Soft};
 use receiving::is_codeword;
 use refusals::Refusal;
+use std::array;
 use std::process::Abort;
 use std::test::Fail;
 use weak::weak_list;
@@ -103,7 +104,7 @@ fn grades_compare_by_class_and_then_by_level(rt: HostRuntime) {
 }
 
 // The weak lists of a reading: under code 3, and the first four under code 2.
-fn listed<R: Soft>(rt: &impl Abort, reading: &R, places: [usize; 6]) -> Result<(), Refusal> {
+fn listed<R: Soft>(rt: &impl Abort, reading: &R, places: [usize; KEPT]) -> Result<(), Refusal> {
     assert_eq!(rt; weak_list(reading, 2)?.places(), &places[..4]);
     assert_eq!(rt; weak_list(reading, 3)?.places(), places.as_slice());
     Ok(())
@@ -173,13 +174,7 @@ fn samples_are_refused_by_their_number(rt: HostRuntime) {
 
 // Bytes for a word: one value for the places that hold one, and another for the rest.
 fn word_bytes(ones: &[usize], one: u8, zero: u8) -> [u8; PLACES] {
-    let mut bytes = [zero; PLACES];
-    for place in ones {
-        if let Some(byte) = bytes.get_mut(*place) {
-            *byte = one;
-        }
-    }
-    bytes
+    array::from_fn(|place| if ones.contains(&place) { one } else { zero })
 }
 
 // What the codeword test says of a word, by signed and by graded bytes.

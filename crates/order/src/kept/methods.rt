@@ -23,7 +23,7 @@ impl<E: Ordered + Copy> Kept<E> {
         }
     }
 
-    // The element in a slot.
+    // The element in a slot. One by one, as the six are single.
     #[tactic(auto, unfolding(crate::specs::Kept::slots))]
     pub fn at(&self, slot: usize) -> Option<E>
         ensures { result ≡ slice_index_or (slots self.now) slot None }

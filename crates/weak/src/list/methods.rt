@@ -14,6 +14,7 @@ impl WeakList {
     {
         let places = match code {
             Code::Two => {
+                // Not [four @ .., _, _]: tried, and the borrow checker "does not cover .. a value that is not a scalar".
                 let [first, second, third, fourth, _, _] = places;
                 Places::Four([first, second, third, fourth])
             }
