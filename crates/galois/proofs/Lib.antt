@@ -6,3 +6,4 @@ pub mod Primitive
 pub mod Powers
 pub mod Sums
 pub mod Squares
+pub mod Making

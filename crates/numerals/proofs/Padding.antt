@@ -1,18 +1,11 @@
 -- What `{:08X}` and `{:02X}` write. Assumes nothing.
-use Rattle.std.proofs.Common.{◌≡◌, ℕ, zero, suc, ◌+◌, ◌-◌, ◌/◌, ◌%◌, ◌^◌, ◌<◌, ◌≤◌, true, false, cond, List, [], ◌∷◌, ◌++◌, length, replicate, sym, refl, ap, ap₂, ◌∙◌, inl, inr, append_assoc, append-nil, div-one, add-zero, arith}
-use native.Mathlib.Nat.{pow-succ', div-div-eq-div-mul, sub-zero}
+use Rattle.std.proofs.Common.{◌≡◌, ℕ, zero, suc, ◌+◌, ◌-◌, ◌/◌, ◌%◌, ◌^◌, ◌<◌, ◌≤◌, true, false, cond, List, [], ◌∷◌, ◌++◌, length, replicate, refl, ap, ap₂, ◌∙◌, inl, inr, append_assoc, append-nil, add-zero, arith}
+use native.Mathlib.Nat.{pow-succ', sub-zero}
 use borrow.Author.Tests.{eq-eqb, ne_eqb}
 use Rattle.std.proofs.lemmas.Bool.{cases_lt}
 use Rattle.std.specs.Fmt.{digits, digits_onto, padded_integral, format_spec, char_count}
 use Rattle.numerals.specs.Numerals.{upper_digit, hex_text}
-
--- the last digit, and those before it
-last : (j x : ℕ) → hex_text (suc j) x ≡ hex_text j (x / 16) ++ upper_digit (x % 16) ∷ []
-unfolding hex_text
-last zero x = ap (λ y. upper_digit (y % 16) ∷ []) (div-one x)
-last (suc j) x =
-    let high : x / 16 ^ suc j ≡ x / 16 / 16 ^ j = ap (λ p. x / p) (pow-succ' 16 j) ∙ sym (div-div-eq-div-mul x 16 (16 ^ j)) in
-    ap₂ (λ y ds. upper_digit (y % 16) ∷ ds) high (last j x)
+use Rattle.numerals.proofs.Writing.{last}
 
 -- the digits of zero
 zeros : (j : ℕ) → hex_text j 0 ≡ replicate j 48

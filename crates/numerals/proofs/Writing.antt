@@ -1,8 +1,8 @@
 -- What is written reads back. Assumes nothing.
-use Rattle.std.proofs.Common.{◌≡◌, ℕ, zero, suc, ◌+◌, ◌*◌, ◌/◌, ◌%◌, ◌^◌, ◌<◌, List, [], ◌∷◌, ◌++◌, length, get_or, take, Some, sym, ap, ◌∙◌, append_assoc, append-nil, mod-lt, mod-eq_of_lt, mul_assoc, add-mul, zero-add, arith}
-use native.Mathlib.Nat.{pow-succ', mod-one, one-le-pow}
+use Rattle.std.proofs.Common.{◌≡◌, ℕ, zero, suc, ◌+◌, ◌*◌, ◌/◌, ◌%◌, ◌^◌, ◌<◌, List, [], ◌∷◌, ◌++◌, length, get_or, take, reverse, set, Some, sym, ap, ap₂, ◌∙◌, append_assoc, append-nil, mod-lt, div-one, mod-eq_of_lt, mul_assoc, add-mul, zero-add, arith}
+use native.Mathlib.Nat.{pow-succ', div-div-eq-div-mul, mod-one, one-le-pow}
 use lib.Arith.{mod-mul}
-use Rattle.std.proofs.lemmas.List.{take_more}
+use Rattle.std.proofs.lemmas.List.{take_more, take_more_set, reverse-append}
 use Rattle.std.proofs.lemmas.Bool.Decides.{nat_tests}
 use Rattle.numerals.specs.Numerals.{and_then, digit_in, upper_digit, numeral_after, hex_word, hex_text, bytes_text}
 
@@ -23,6 +23,23 @@ reads_back (suc n) a x =
 pub word_reads_back : (w : ℕ) → w < 2 ^ 32 → hex_word (hex_text 8 w) ≡ Some w
 unfolding hex_text hex_word
 word_reads_back w h = reads_back 8 0 w ∙ ap Some (zero-add (w % 2 ^ 32) ∙ mod-eq_of_lt h)
+
+-- the last digit, and those before it
+pub last : (j x : ℕ) → hex_text (suc j) x ≡ hex_text j (x / 16) ++ upper_digit (x % 16) ∷ []
+unfolding hex_text
+last zero x = ap (λ y. upper_digit (y % 16) ∷ []) (div-one x)
+last (suc j) x =
+    let high : x / 16 ^ suc j ≡ x / 16 / 16 ^ j = ap (λ p. x / p) (pow-succ' 16 j) ∙ sym (div-div-eq-div-mul x 16 (16 ^ j)) in
+    ap₂ (λ y ds. upper_digit (y % 16) ∷ ds) high (last j x)
+
+-- one digit more, from the lowest up: those behind stand turned round
+pub digit_more : (items : List ℕ) (i j x d : ℕ) → i < length items → d ≡ upper_digit (x % 16)
+    → hex_text j (x / 16) ++ reverse (take (i + 1) (set items i d)) ≡ hex_text (suc j) x ++ reverse (take i items)
+digit_more items i j x d l is =
+    ap (λ ds. hex_text j (x / 16) ++ reverse ds) (take_more_set items i d l)
+    ∙ ap (λ ds. hex_text j (x / 16) ++ ds) (reverse-append (take i items) (d ∷ []) ∙ ap (λ e. e ∷ reverse (take i items)) is)
+    ∙ sym (append_assoc (hex_text j (x / 16)) (upper_digit (x % 16) ∷ []) (reverse (take i items)))
+    ∙ ap (λ ds. ds ++ reverse (take i items)) (sym (last j x))
 
 bytes_append : (bytes : List ℕ) (b : ℕ) → bytes_text (bytes ++ b ∷ []) ≡ bytes_text bytes ++ hex_text 2 b
 unfolding bytes_text

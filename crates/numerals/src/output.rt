@@ -1,8 +1,32 @@
 // Words and bytes as they are printed.
-ghost use Rattle.std.specs.Prelude.{◌≡◌, Some};
-ghost use Rattle.numerals.specs.Numerals.{hex_word, hex_text, bytes_text};
+ghost use Rattle.std.specs.Prelude.{◌≡◌, ◌%◌, Some};
+ghost use Rattle.numerals.specs.Numerals.{hex_word, upper_digit, hex_text, bytes_text};
 
 use std::fmt;
+
+// The upper-case hex digit of the lowest four bits.
+fn last_digit(x: u32) -> u8
+    ensures { result ≡ upper_digit (x % 16) }
+{
+    let d = (x % 16) as u8;
+    if d < 10 { b'0' + d } else { b'A' - 10 + d }
+}
+
+// The last N hex digits of a word, in upper case, high digit first: 8 are the whole word, and 2 a byte. No formatter is asked, so this cannot fail.
+// The digits come from the lowest up, and are turned round.
+pub fn hex_text<const N: usize>(x: u32) -> [u8; N]
+    ensures text { result ≡ hex_text N x }
+    ensures reads_back { N ≡ 8 → hex_word result ≡ Some x }
+{
+    let mut text = [0; N];
+    let mut rest = x;
+    for digit in text.iter_mut() {
+        *digit = last_digit(rest);
+        rest /= 16;
+    }
+    text.reverse();
+    text
+}
 
 // A word as it is printed: eight upper-case hex digits, high digit first.
 #[derive(Clone, Copy)]

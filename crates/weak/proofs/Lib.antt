@@ -1,4 +1,3 @@
 pub mod Ranking
 pub mod Only
 pub mod Asking
-pub mod FromFn

@@ -2,7 +2,7 @@ use Rattle.std.proofs.Common.{◌/◌, ◌%◌, get_or, ◌∙◌, ap, rules}
 use Rattle.galois.specs.Polynomials.{bit}
 use Rattle.printing.specs.Packing.{packed_byte, packing}
 use Rattle.printing.proofs.Bytes.{packed_places}
-use Rattle.printing.proofs.Made.{made}
+use Rattle.galois.proofs.Making.{made}
 use Rattle.printing.proofs.packing.packed.Goals as goal
 
 pub returns : goal.returns
