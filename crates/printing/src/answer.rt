@@ -1,4 +1,4 @@
-// What the lines of a script print.
+// The answers to a script, and their texts.
 ghost use Rattle.std.specs.Prelude.{Some};
 ghost use Rattle.refusals.specs.Refusals.{returned};
 ghost use Rattle.printing.specs.Texts.{numbers_text, words_text, said};

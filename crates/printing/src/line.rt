@@ -6,6 +6,7 @@ use std::alloc::AllocError;
 use std::fmt;
 
 // Puts a text and a newline after `out`, on the heap that `out` is on.
+// Not write!: to a Vec its error is an io::Error, and the error here is of memory alone. A String would ask more of the callers of Session.
 pub fn put_line<T: fmt::Display>(line: &T, out: &mut Vec<u8>) -> Result<(), AllocError>
     ensures { IfSome (T.output line.now) (λ text. OnOk result (out.new.items ≡ out.old.items ++ printed text)) }
 {

@@ -10,9 +10,10 @@ use std::array;
 const BYTE_BITS: usize = 8;
 
 // The bytes of a packed word.
-const PACKED_BYTES: usize = 32;
+const PACKED_BYTES: usize = PLACES / BYTE_BITS + 1;
 
 // Byte j of a packed word: the places from 8 * j on, as many as there are up to eight.
+// By number: 255 places leave seven for the last byte, so as_chunks would leave them out.
 fn byte_at(bits: &[bool; PLACES], j: usize) -> u8
     requires { j < PACKED_BYTES }
     ensures { result ≡ packed_byte bits.now j }

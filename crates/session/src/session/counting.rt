@@ -23,6 +23,7 @@ impl Session {
     }
 
     // Counts a call. The counts stay at their highest rather than wrap.
+    // A bool: all that is counted of an answer is whether it was accepted.
     pub(super) fn count(&mut self, accepted: bool)
         ensures counted { Counted accepted self.old self.new }
         ensures word { self.new.word ≡ self.old.word }
