@@ -12,7 +12,7 @@ fn last_digit(x: u32) -> u8
     if d < 10 { b'0' + d } else { b'A' - 10 + d }
 }
 
-// The last N hex digits of a word, in upper case, high digit first: 8 are the whole word, and 2 a byte. No formatter is asked, so this cannot fail.
+// The last N hex digits of a word, in upper case, high digit first: 8 are the whole word, 2 a byte. It asks no formatter, so it cannot fail.
 // The digits come from the lowest up, and are turned round.
 pub fn hex_text<const N: usize>(x: u32) -> [u8; N]
     ensures text { result ≡ hex_text N x }

@@ -8,7 +8,8 @@ loop-digit-preserved g c =
     record {
       long = search rules;
       text = λ j e.
-          digit_more c.loop-digit.digit-items c.loop-digit.digit-index j c.loop-digit.rest c.last_digit.result (omega (arith, c.loop-digit.invariant.long)) c.last_digit.ensures
+          digit_more c.loop-digit.digit-items c.loop-digit.digit-index j c.loop-digit.rest c.last_digit.result
+          (omega (arith, c.loop-digit.invariant.long)) c.last_digit.ensures
           ∙ c.loop-digit.invariant.text (suc j) (omega arith);
     }
 
