@@ -16,6 +16,7 @@ fn divide_step(rest: u32, place: bool, code: Code) -> u32
 }
 
 // The remainder of a word on division by the code's generator.
+// Code and bits apart: the pair is Word, which is a codeword at all times, and before `fill` these are none.
 pub fn divide(bits: &[bool; PLACES], code: Code) -> u32
     ensures value { result ≡ remainder (parity code) (generator code) bits.now }
     ensures divided { Divided (parity code) (generator code) bits.now result }

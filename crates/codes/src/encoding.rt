@@ -8,6 +8,8 @@ use bch::{Code, PLACES};
 use refusals::Refusal;
 
 // Fills the word with the one codeword under that code that carries the words.
+// Into the caller's memory, and not in the answer: so the rules in docs/ have it, as is that a refusal leaves it as it was.
+// `number` is any 32-bit number, as the calls of docs/ take it; inside it is a Code.
 pub fn encode(words: &[u32], number: u32, word: &mut Word) -> Result<(), Refusal>
     ensures call { Encodes words.now number word.old word.new result }
     ensures out_after_in { OutAfterIn }

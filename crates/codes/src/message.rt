@@ -24,10 +24,12 @@ pub fn message_in(words: &[u32]) -> Option<&[u32; MESSAGE_WORDS]>
 }
 
 // The message's bits written to their places, which stand above the parity places.
+// Code and bits apart, as in division: they are no codeword yet.
 pub fn lay_message(words: &[u32; MESSAGE_WORDS], code: Code, bits: &mut [bool; PLACES])
     ensures { Laid words.now (parity code) bits.old bits.new }
 {
     let from = code.parity();
+    // By number. Tried: chunks_exact_mut; after it a proof knows how many places there are, and not what they hold.
     for (i, word) in words.iter().enumerate() {
         let at = from + WORD_BITS * i;
         lay_number(*word, &mut bits[at..at + WORD_BITS]);

@@ -29,6 +29,7 @@ fn spare_is_empty(word: &Word) -> bool
 }
 
 // Writes the message that the word carries to the caller's memory.
+// There, and not in the answer: so the rules in docs/ have it, as is that a refusal leaves it as it was.
 pub fn take_message(word: &Word, message: &mut [u32; MESSAGE_WORDS]) -> Result<(), Refusal>
     ensures call { Takes word.now message.old message.new result }
     ensures in_after_out { InAfterOut }

@@ -11,6 +11,7 @@ mod reading;
 pub struct Word {
     code: Code,
     bits: [bool; PLACES],
+    // A clause sees a list, and not the length that the type gives it.
     ghost long: { length bits ≡ places },
     ghost zeros: { Vanishes code bits },
 }
