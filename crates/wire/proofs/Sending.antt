@@ -1,6 +1,7 @@
 -- What the loops of sending keep, and each way out of it. Assumes nothing.
-use Rattle.std.proofs.Common.{◌≡◌, ℕ, zero, suc, ◌+◌, ◌<◌, Bool, false, List, map, length, get_or, Ok, Err, sym, refl, ap, ◌∙◌, inl, inr, add-zero, add-suc, suc-add, zero-add, arith}
-use Rattle.std.proofs.lemmas.List.{ext_get_or, get_or-map, length-map}
+use Rattle.std.proofs.Common.{◌≡◌, ℕ, zero, suc, ◌+◌, ◌*◌, ◌<◌, Bool, false, List, map, take, drop, w32, length, get_or, Ok, Err, sym, refl, ap, ◌∙◌, inl, inr, add-zero, add-suc, suc-add, zero-add, arith}
+use Rattle.std.proofs.lemmas.List.{ext_get_or, get_or-map, get_or-take, get_or-drop, length-map}
+use Rattle.std.specs.Int.{from_be_bytes}
 use Rattle.refusals.specs.declared.refusal.Refusal.{Refusal}
 use Rattle.refusals.specs.Refusals.{Fits, Refused, returned, row}
 use Rattle.bch.specs.declared.code.Code.TheVariants.{Two}
@@ -8,7 +9,7 @@ use Rattle.bch.specs.Messages.{message_words, encoding}
 use Rattle.codes.specs.declared.word.Word.{Word}
 use Rattle.codes.specs.Calls.{encode_causes, Encoded}
 use Rattle.codes.proofs.Inverse.{code_injective}
-use Rattle.wire.specs.Bytes.{record_word, words_from, record_words, sample, Sends}
+use Rattle.wire.specs.Bytes.{word_bytes, record_word, words_from, record_words, sample, Sends}
 
 pub all_samples : (w : List Bool) (s : List ℕ) → length s ≡ length w → ((i : ℕ) → i < length w → get_or s i 0 ≡ sample (get_or w i false)) → s ≡ map sample w
 all_samples w s l at =
@@ -29,6 +30,18 @@ unfolding record_words
 all_words bytes m l at =
     ext_get_or 0 m (words_from message_words 0 bytes) (l ∙ sym (length_words message_words 0 bytes))
     (λ i h. let hi : i < message_words = omega arith in at i hi ∙ sym (get_or_words message_words 0 i bytes hi ∙ ap (record_word bytes) (zero-add i)))
+
+-- four bytes of a record, the high one first, are one of its words
+pub big_endian : (bytes : List ℕ) (i : ℕ) → from_be_bytes w32 (take word_bytes (drop (word_bytes * i) bytes)) ≡ record_word bytes i
+big_endian bytes i =
+    let first : get_or four 0 0 ≡ get_or bytes (word_bytes * i) 0 = at 0 (omega arith) ∙ ap (λ k. get_or bytes k 0) (add-zero (word_bytes * i)) in
+    omega (arith, first, at 1 (omega arith), at 2 (omega arith), at 3 (omega arith))
+  where
+    four : List ℕ
+    four = take word_bytes (drop (word_bytes * i) bytes)
+
+    at : (j : ℕ) → j < word_bytes → get_or four j 0 ≡ get_or bytes (word_bytes * i + j) 0
+    at j h = get_or-take word_bytes (drop (word_bytes * i) bytes) j 0 h ∙ get_or-drop (word_bytes * i) bytes j 0
 
 -- encoding refuses a record under a known code only where its words are no message
 pub send_refused : (bytes samples : List ℕ) (x : Refusal) → Refused (encode_causes 2 (record_words bytes)) x (returned x) → Sends bytes samples samples (Err x)

@@ -1,6 +1,6 @@
 use Rattle.std.proofs.Common.{Err, sym, subst}
 use Rattle.std.proofs.lemmas.Result.{IfErr-at_err, err_from_is_err_and}
-use Rattle.bch.specs.Messages.{Message}
+use Rattle.bch.specs.Messages.{Message, Carries}
 use Rattle.codes.specs.Calls.{Takes}
 use Rattle.codes.proofs.Inverse.{in_after_out}
 use Rattle.codes.proofs.Reading.{carried_words, read_carries, refuse_take, accept_take}
@@ -32,7 +32,7 @@ returns c =
     let is = rw c.in_ok-carried.ensures.ok_part at c.message_in.ensures in
     let empty = c.spare_is_empty.ensures.yes c.if-not-spare_is_empty.false in
     record {
-      call = rw is.0 (accept_take word c.args.message.now c.words_in-words.result
-          (read_carries word.code word.bits c.words_in-words.result word.long c.words_in-words.ensures is.1 empty));
+      call = accept_take word c.args.message.now c.in_ok-carried.carried.now
+          (subst (λ m. Carries word.code m word.bits) (sym is.0) (read_carries word.code word.bits c.words_in-words.result word.long c.words_in-words.ensures is.1 empty));
       in_after_out = in_after_out;
     }
