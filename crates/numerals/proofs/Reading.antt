@@ -27,7 +27,7 @@ numeral_least : (base n m : ℕ) (bs : List ℕ) → numeral_after base n bs ≡
 numeral_least base n m [] e = omega (arith, same_Some n m e)
 numeral_least base n m (b ∷ bs) e =
     least_after base n m (digit_in base b) (λ d. numeral_after base (n * base + d) bs)
-      (λ d is. digit_below base b d (sym is)) (λ d is later. numeral_least base (n * base + d) m bs later) e
+    (λ d is. digit_below base b d (sym is)) (λ d is later. numeral_least base (n * base + d) m bs later) e
 
 not_below : (o : Option ℕ) (bound n : ℕ) → ((m : ℕ) → o ≡ Some m → n ≤ m) → bound ≤ n → and_then o (below bound) ≡ None
 not_below None bound n least h = refl
@@ -82,7 +82,7 @@ numeral_bound : (base n m : ℕ) (bs : List ℕ) → numeral_after base n bs ≡
 numeral_bound base n m [] e = rw pow-zero (omega (arith, same_Some n m e))
 numeral_bound base n m (b ∷ bs) e =
     bound_after base n m (length bs) (digit_in base b) (λ d. numeral_after base (n * base + d) bs)
-      (λ d is. digit_below base b d (sym is)) (λ d. numeral_bound base (n * base + d) m bs) e
+    (λ d is. digit_below base b d (sym is)) (λ d. numeral_bound base (n * base + d) m bs) e
 
 short : (o : Option ℕ) → ((n : ℕ) → o ≡ Some n → n < 2 ^ 32) → and_then o (below (2 ^ 32)) ≡ o
 short None bound = refl
@@ -99,8 +99,8 @@ unfolding hex_word
 hex_word_is bs =
     let is_short = within 1 8 (length bs) in
     cond_both is_short _ _ (λ o. o ≡ cond is_short (numeral 16 bs) None)
-      (λ e. short (numeral 16 bs) (eight_digits_fit bs e) ∙ sym (cond-true is_short _ _ e))
-      (λ e. sym (cond-false is_short _ _ e))
+    (λ e. short (numeral 16 bs) (eight_digits_fit bs e) ∙ sym (cond-true is_short _ _ e))
+    (λ e. sym (cond-false is_short _ _ e))
 
 -- one more value after those that there are, or in front of those to come
 pub moved : (xs : List ℕ) (w : ℕ) (o : Option (List ℕ))
