@@ -7,7 +7,8 @@ ghost use Rattle.line_fields.specs.Left.{left};
 
 use crate::split::split_field;
 
-// The fields of a text that are left. There is one in an empty text, and none where no space follows a field.
+// What is left of a text: its fields to come, or None after the last.
+// Not slice::split: its type holds a closure, and `call_fields` of script_text could not give that type back.
 #[derive(Clone, Copy)]
 pub struct Fields<'a> {
     rest: Option<&'a [u8]>,
@@ -22,8 +23,9 @@ impl<'a> Fields<'a> {
         Fields { rest: Some(text) }
     }
 
-    // The field that is left, if it is exactly one.
     // One, two and three stay three: the borrow checker does not cover an array of references whose length is a const parameter.
+
+    // The field that is left, if it is exactly one.
     #[tactic(auto, unfolding(crate::specs::Fields::one_field))]
     pub fn one(mut self) -> Option<&'a [u8]>
         ensures { option_map (λ f. f.now) result ≡ one_field (left self.entry) }

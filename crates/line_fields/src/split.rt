@@ -1,4 +1,4 @@
-// A line without its carriage return, and the first field of a text.
+// A line without its carriage return, the first field of a text, and whether a field is a given text.
 ghost use Rattle.std.specs.Prelude.{◌≡◌, ◌∷◌, ◌++◌};
 ghost use Rattle.std.specs.Str.{bytes_eq};
 ghost use Rattle.line_fields.specs.Fields.{Solid, fields, fields_left, spaced, without_return};
@@ -26,7 +26,7 @@ pub fn split_field(text: &[u8]) -> (&[u8], Option<&[u8]>)
     }
 }
 
-// Whether a field is this text.
+// Whether a field is this text. A name for ==, whose clause is the definition bytes_eq.
 pub fn field_is(field: &[u8], this: &[u8]) -> bool
     ensures { result ≡ bytes_eq field.now this.now }
 {

@@ -18,6 +18,7 @@ fn hex_digit(b: u8) -> Option<u32>
 }
 
 // The value of a digit in a base up to 16.
+// Not to_digit(base), which requires a base of 2 to 36.
 fn digit_in(base: u32, b: u8) -> Option<u32>
     ensures { result ≡ digit_in base b }
 {
@@ -25,6 +26,7 @@ fn digit_in(base: u32, b: u8) -> Option<u32>
 }
 
 // The number that digits write, high digit first, if it is below 2^32.
+// Not u32::from_str_radix: it takes text and not bytes, and a + before the digits.
 #[tactic(auto, using(crate::proofs::Reading::digit_steps))]
 fn number(base: u32, field: &[u8]) -> Option<u32>
     ensures { result ≡ and_then (numeral base field.now) (below (2 ^ 32)) }
@@ -73,6 +75,7 @@ fn hex_byte(high: u8, low: u8) -> Option<u8>
 }
 
 // Hex digits as bytes, two digits a byte.
+// Not the kit's crate hex: the rule of BYTES stands in specs/, and that crate brings a second one.
 #[tactic(auto, using(crate::proofs::Reading::no_byte))]
 fn hex_pairs(heap: Global, digits: &[u8]) -> Result<Vec<u8>, Unread>
     ensures { Reads vec_items (hex_pairs digits.now) result }

@@ -64,5 +64,7 @@ fn read_call(heap: Global, fields: Fields) -> Result<Call, Unread>
 pub fn parse(heap: Global, line: &[u8]) -> Result<Option<Call>, Unread>
     ensures { ReadsAs not_understood line_says (meaning line.now) result }
 {
-    call_fields(line).map(|fields| read_call(heap, fields)).transpose()
+    call_fields(line)
+        .map(|fields| read_call(heap, fields))
+        .transpose()
 }

@@ -84,5 +84,7 @@ pub fn call_fields(line: &[u8]) -> Option<Fields<'_>>
 pub fn parse(heap: Global, line: &[u8]) -> Result<Option<Call>, Unread>
     ensures { ReadsAs not_understood line_says (meaning line.now) result }
 {
-    call_fields(line).map(|fields| read_call(heap, fields)).transpose()
+    call_fields(line)
+        .map(|fields| read_call(heap, fields))
+        .transpose()
 }

@@ -11,10 +11,11 @@ use std::io::{BufRead, BufReader, BufWriter, Stdin, Stdout, Write};
 const NEWLINE: u8 = b'\n';
 
 // A line without the newline at its end; the last one of a script may lack it.
+// One expression; line_fields has it for the carriage return, with a clause of another form.
 fn without_newline(line: &[u8]) -> &[u8]
     ensures { WithoutNewline line.now result.now }
 {
-    line.strip_suffix(b"\n").unwrap_or(line)
+    line.strip_suffix(&[NEWLINE]).unwrap_or(line)
 }
 
 // Answers each line of the input. The memory grows with the longest line, and not with the script.

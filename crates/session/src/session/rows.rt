@@ -13,7 +13,11 @@ use std::alloc::AllocError;
 
 // Puts what a call answered after `out`: this answer where it was accepted, or else the refusal.
 // A match and no map_or_else: the borrow checker does not cover one with Answer::Refused, whose answer's lifetime no argument names.
-fn put_call(call: Result<(), Refusal>, accepted: Answer, out: &mut Vec<u8>) -> Result<(), AllocError>
+fn put_call(
+    call: Result<(), Refusal>,
+    accepted: Answer,
+    out: &mut Vec<u8>,
+) -> Result<(), AllocError>
     ensures { OnOk result (out.new.items ≡ out.old.items ++ printed (answer_text (λ _. said accepted.entry) call)) }
 {
     let answer = match call {
