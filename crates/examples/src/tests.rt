@@ -29,11 +29,11 @@ fn goes_through(
 ) {
     let mut word = Word::new();
     let mut out = [0; MESSAGE_WORDS];
-    assert!(rt; encode(&message, code, &mut word).is_ok());
+    assert_eq!(rt; encode(&message, code, &mut word), Ok(()));
     assert_eq!(rt; u32::from(word.code()), code);
     assert_eq!(rt; low_places(&word, places), parity);
-    assert!(rt; take_message(&word, &mut out).is_ok());
-    assert!(rt; out == message);
+    assert_eq!(rt; take_message(&word, &mut out), Ok(()));
+    assert_eq!(rt; out, message);
 }
 
 #[test]
@@ -48,7 +48,7 @@ fn messages_go_in_and_out(rt: HostRuntime) {
 fn numbers_stand_in_places(rt: HostRuntime) {
     let mut places = [true; 5];
     lay_number(6, &mut places);
-    assert!(rt; places == [false, true, true, false, false]);
+    assert_eq!(rt; places, [false, true, true, false, false]);
     assert_eq!(rt; number_of(&places), 6);
 }
 
@@ -56,19 +56,19 @@ fn numbers_stand_in_places(rt: HostRuntime) {
 fn the_zero_word_carries_no_message(rt: HostRuntime) {
     let word = Word::new();
     let mut out = A;
-    assert!(rt; take_message(&word, &mut out) == Err(Refusal::NoMessage));
-    assert!(rt; out == A, "the memory is as it was");
+    assert_eq!(rt; take_message(&word, &mut out), Err(Refusal::NoMessage));
+    assert_eq!(rt; out, A, "the memory is as it was");
 }
 
 // A call that must be refused so, and leave the word as it was.
 fn refused(rt: &impl Abort, words: &[u32], code: u32, refusal: Refusal) {
     let mut word = Word::new();
     let mut out = [0; MESSAGE_WORDS];
-    assert!(rt; encode(&A, 3, &mut word).is_ok());
-    assert!(rt; encode(words, code, &mut word) == Err(refusal));
+    assert_eq!(rt; encode(&A, 3, &mut word), Ok(()));
+    assert_eq!(rt; encode(words, code, &mut word), Err(refusal));
     assert_eq!(rt; u32::from(word.code()), 3);
-    assert!(rt; take_message(&word, &mut out).is_ok());
-    assert!(rt; out == A);
+    assert_eq!(rt; take_message(&word, &mut out), Ok(()));
+    assert_eq!(rt; out, A);
 }
 
 #[test]

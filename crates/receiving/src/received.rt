@@ -10,5 +10,6 @@ mod methods;
 pub struct Received {
     code: Code,
     bits: [bool; PLACES],
+    // A clause sees a list, and not the length that the type gives it.
     ghost long: { length bits ≡ places },
 }

@@ -18,14 +18,14 @@ pub struct Sums {
 }
 
 impl Sums {
-    // Those of the empty word; places are added one by one.
+    // Those of the empty word; places are added one by one. It is Default, with a clause that says so.
     pub fn new() -> Sums
         ensures { SumsOf [] result }
     {
         Sums::default()
     }
 
-    // Those of the received word.
+    // Those of the received word. By name, and no From: it adds up 255 places, and is no change of form.
     pub fn of(received: &Received) -> Sums
         ensures { SumsOf (received_bits received.now) result }
     {
@@ -40,6 +40,7 @@ impl Sums {
     }
 
     // Adds what a one at the place adds to each; a second time takes it away again.
+    // Three by name: an array and a loop over 1, 3, 5 would be no shorter.
     pub fn flip(&mut self, place: usize)
         requires { place < places }
         ensures { Flips place self.old self.new }
@@ -51,6 +52,7 @@ impl Sums {
     }
 
     // Whether those below 2t are zero. The sums of a word vanish exactly when it is a codeword.
+    // By name, and not compared with the empty word's: under code 2 the fifth sum is not asked, and so the two rows stay alike.
     pub fn vanish(&self, code: Code) -> bool
         ensures sums { Says result (OddVanish code self.now) }
         ensures codeword { (w : List Bool) → length w ≡ places → SumsOf w self.now → Says result (Codeword code w) }

@@ -8,6 +8,7 @@ use readings::Hard;
 use refusals::Refusal;
 
 // Whether the reading's bits are a codeword of the code of that number.
+// `number` is any 32-bit number, as the calls of docs/ take it; inside it is a Code.
 pub fn is_codeword<R: Hard>(reading: &R, number: u32) -> Result<bool, Refusal>
     ensures call { Tests (R.Hard.places reading.now) number result }
     ensures lowest { Finds }

@@ -23,6 +23,7 @@ impl From<Refusal> for u8 {
 }
 
 // The number that a call returned whose answer is nothing else: 0 where it was accepted.
+// A function, since neither Result nor u8 is ours, and so no From can be written.
 pub fn outcome_number(answer: &Result<(), Refusal>) -> u8
     ensures { result ≡ slice_index (outcome nothing answer.now) 0 }
 {

@@ -1,3 +1,4 @@
+// No Display: a program prints a refusal by its number.
 #[derive(Clone, Copy, PartialEq, Eq, Debug)]
 pub enum Refusal {
     // The code number is neither 2 nor 3.

@@ -8,6 +8,7 @@ use readings::Hard;
 use refusals::Refusal;
 
 // The bits of a reading of 255 places; each place is asked once, from the lowest up to the first unsound one.
+// Not array::try_from_fn: its contract gives an index of the error, and not that it is the lowest.
 fn copied<R: Hard>(reading: &R) -> Result<[bool; PLACES], Refusal>
     requires { length (R.Hard.places reading.now) ≡ places }
     ensures { Copies (R.Hard.places reading.now) result }
@@ -21,6 +22,7 @@ fn copied<R: Hard>(reading: &R) -> Result<[bool; PLACES], Refusal>
 
 impl Received {
     // The received word of a reading, under the code of that number.
+    // `number` is any 32-bit number, as the calls of docs/ take it; inside it is a Code.
     pub fn of<R: Hard>(reading: &R, number: u32) -> Result<Received, Refusal>
         ensures { Receives (R.Hard.places reading.now) number result }
     {
