@@ -16,6 +16,6 @@ returns c = record {
       let long : length part ≡ 224 = omega (arith, room, length-drop from bits, length-take-le (from + 224 - from) (drop from bits)) in
       let told : get_or c.from_fn.result i 0 ≡ number (get_or c.as_chunks.result.0.now i []) = search rules in
       let chunk : get_or c.as_chunks.result.0.now i [] ≡ take 32 (drop (from + 32 * i) bits) =
-        ap (λ l. get_or l i []) c.as_chunks.ensures.front ∙ chunk_at 32 (length part / 32) i part (omega (arith, long)) ∙ part_of 32 (32 * i) from (from + 224 - from) bits (omega arith) in
+      ap (λ l. get_or l i []) c.as_chunks.ensures.front ∙ chunk_at 32 (length part / 32) i part (omega (arith, long)) ∙ part_of 32 (32 * i) from (from + 224 - from) bits (omega arith) in
       told ∙ ap number (rw (c.bits.ensures.value, c.parity-from.ensures, c.code.ensures) at chunk);
 }
