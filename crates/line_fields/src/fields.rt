@@ -24,6 +24,7 @@ impl<'a> Fields<'a> {
     }
 
     // One, two and three stay three: the borrow checker does not cover an array of references whose length is a const parameter.
+    // Tried for two: collect_tuple of the kit's itertools, whose clauses speak of a run; search finds no step to the fields that are left.
 
     // The field that is left, if it is exactly one.
     #[tactic(auto, unfolding(crate::specs::Fields::one_field))]
