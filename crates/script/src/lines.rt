@@ -60,6 +60,7 @@ fn read_call(heap: Global, fields: Fields) -> Result<Call, Unread>
 }
 
 // Reads a line of a script, or gives `None` where it says nothing.
+// One expression, as in script_text, over this crate's calls.
 #[tactic(auto, using(crate::proofs::Rows::no_call, crate::proofs::Rows::one_call))]
 pub fn parse(heap: Global, line: &[u8]) -> Result<Option<Call>, Unread>
     ensures { ReadsAs not_understood line_says (meaning line.now) result }
