@@ -28,7 +28,7 @@ pub fn divide(bits: &[bool; PLACES], code: Code) -> u32
     rest
 }
 
-// The remainder written into the parity places.
+// The remainder written into the parity places. Code and bits apart, as in `divide`.
 pub fn lay_parity(rest: u32, code: Code, places: &mut [bool; PLACES])
     ensures { places.new ≡ bits (parity code) rest ++ drop (parity code) places.old }
 {

@@ -6,6 +6,7 @@ ghost use Rattle.line_fields.specs.Fields.{Solid, fields, fields_left, spaced, w
 const SPACE: u8 = b' ';
 
 // A line without the carriage return at its end, if it has one.
+// One expression; `stocktake` has it for the newline, with a clause of another form.
 #[tactic(auto, using(crate::proofs::Ending::stripped))]
 pub fn without_return(line: &[u8]) -> &[u8]
     ensures { result.now ≡ without_return line.now }
@@ -26,7 +27,7 @@ pub fn split_field(text: &[u8]) -> (&[u8], Option<&[u8]>)
     }
 }
 
-// Whether a field is this text. A name for ==, whose clause is the definition bytes_eq.
+// Whether a field is this text. A name for ==, so that a caller's proof has the definition bytes_eq.
 pub fn field_is(field: &[u8], this: &[u8]) -> bool
     ensures { result ≡ bytes_eq field.now this.now }
 {

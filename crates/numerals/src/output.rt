@@ -13,7 +13,7 @@ fn last_digit(x: u32) -> u8
 }
 
 // The last N hex digits of a word, in upper case, high digit first: 8 are the whole word, 2 a byte. It asks no formatter, so it cannot fail.
-// The digits come from the lowest up, and are turned round.
+// No program calls it: it keeps what is promised without a formatter. The digits come from the lowest up, and are turned round.
 pub fn hex_text<const N: usize>(x: u32) -> [u8; N]
     ensures text { result ≡ hex_text N x }
     ensures reads_back { N ≡ 8 → hex_word result ≡ Some x }

@@ -7,6 +7,7 @@ use std::fmt;
 
 // Puts a text and a newline after `out`, on the heap that `out` is on.
 // Not write!: to a Vec its error is an io::Error, and the error here is of memory alone. A String would ask more of the callers of Session.
+// The clause is written out, as in the two of `session` that put a line: what is put differs, and a word for ++ would be no plainer.
 pub fn put_line<T: fmt::Display>(line: &T, out: &mut Vec<u8>) -> Result<(), AllocError>
     ensures { IfSome (T.output line.now) (λ text. OnOk result (out.new.items ≡ out.old.items ++ printed text)) }
 {

@@ -81,7 +81,7 @@ impl Ordered for Grade {
 
     ghost transitive = { Prim.search rules };
 
-    // Lost places are all equal in strength.
+    // By hand: a derived order would tell lost places apart by their levels, and they are all equal in strength.
     fn is_at_most(&self, other: &Grade) -> bool {
         match self.class.cmp(&other.class) {
             Ordering::Less => true,

@@ -37,7 +37,7 @@ fn kept_places<S: Strength>(least: &Kept<WeakPlace<S>>) -> [usize; KEPT]
     array::from_fn(|slot| least.at(slot).map_or(0, |weak| weak.place))
 }
 
-// The weak list of a reading of 255 sound places.
+// The weak list of a reading of 255 sound places. The burst is written out, as at `keep`.
 pub fn weakest<R: Soft>(reading: &R, code: Code) -> WeakList
     requires { Whole (R.places reading.now) }
     ensures { WeakListOf (2 * code_number code) (burst R.Soft R.Kind.Ordered reading.now) (listed result) }

@@ -9,7 +9,7 @@ use receiving::Received;
 use refusals::Refusal;
 
 // The weak list of a reading under the code of that number.
-// Any 32-bit number, as the calls of docs/ take it; inside it is a Code.
+// Any 32-bit number, as the calls of docs/ take it; inside it is a Code. The burst is written out, as at `keep`.
 pub fn weak_list<R: Soft>(reading: &R, number: u32) -> Result<WeakList, Refusal>
     ensures call { Lists (burst R.Soft R.Kind.Ordered reading.now) number result }
     ensures lawful { Lawful (burst R.Soft R.Kind.Ordered reading.now) }

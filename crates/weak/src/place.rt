@@ -20,6 +20,7 @@ fn wins_tie(place: usize, other: usize) -> bool
     place <= other
 }
 
+// By hand, and no derived Ord: strengths have none, and where they are equal the tie rule decides.
 impl<S: Strength> Ordered for WeakPlace<S> {
     ghost at_most = { weak_at_most S.Ordered.at_most };
 

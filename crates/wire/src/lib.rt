@@ -34,7 +34,7 @@ fn sample_of(bit: bool) -> u8
     if bit { 0x7F } else { 0x81 }
 }
 
-// Each place as a sample.
+// Each place as a sample, into the caller's memory.
 pub fn lay_samples(bits: &[bool; PLACES], samples: &mut [u8; PLACES])
     ensures { samples.new ≡ map sample bits.now }
 {

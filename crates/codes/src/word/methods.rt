@@ -32,7 +32,7 @@ impl Word {
         &self.bits
     }
 
-    // Becomes the given codeword: the one way to fill a word.
+    // Becomes the given codeword: the one way to fill a word. Code and bits come apart, and are a pair from here on.
     pub fn fill(&mut self, code: Code, bits: &[bool; PLACES])
         requires { Codeword code bits.now }
         ensures code { self.new.code ≡ code }

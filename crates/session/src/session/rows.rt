@@ -30,6 +30,7 @@ fn put_call(
 impl Session {
     // encode CODE WORD..
     // Not one helper with take_row: an answer borrows the session's word, and the count writes the session.
+    // `code` is a number, as in the line: the call refuses one that no code has.
     fn encode_row(&mut self, code: u32, words: &[u32], out: &mut Vec<u8>) -> Result<(), AllocError>
         ensures { OnOk result (Adds (EncodeLine code words.now self.old self.new) out.old.items out.new.items) }
     {
