@@ -26,7 +26,7 @@ point() {
         say '4e a field that is compared on its own'; find_in 'self\.[a-z]+ [<=]=? (0|other)' ;;
     5)  say '5a clauses that stand three times or more'
         src | xargs grep -hoE '(requires|ensures)[^{]*\{.*\}' | sed -E 's/^(requires|ensures)[ a-z_]*//' | sort | uniq -c | sort -rn | awk '$1 > 2'
-        say '5b parts of clauses that stand three times or more'
+        say '5b parts of clauses, those that stood three times or more among them'
         src | xargs grep -hE '^ *(requires|ensures)' | grep -oE 'burst R[^)]*reading\.now|OnOk result \(out\.new\.items ≡ out\.old\.items|IfOk result \(λ [a-z]+\. option_map vec_items|word_bits \* message_words ≤ places|place < places|InOrder \([^)]*\)' | sort | uniq -c | sort -rn
         say '5c parameters that travel together';     find_in '(heap: Global.*out: &mut Vec|bits.*code: Code|code: Code.*bits)' ;;
     6)  say '6a arrays and counts in fields';         find_in '^    (pub )?[a-z_]+: (\[|Option<|usize|Vec<)'

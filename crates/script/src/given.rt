@@ -1,5 +1,7 @@
 // A reading as a script gives it.
 ghost use Rattle.std.specs.Prelude.{◌≡◌};
+ghost use Rattle.std.specs.Option.{ok_or};
+ghost use Rattle.line_fields.specs.declared.unread.Unread.TheVariants.{NotUnderstood};
 ghost use Rattle.line_fields.specs.Left.{left};
 ghost use Rattle.line_fields.specs.Reads.{Reads};
 ghost use Rattle.script.specs.Given.{kind_text, given_as, reading_fields};
@@ -25,15 +27,18 @@ pub struct Given {
 }
 
 // A field that is a KIND.
-// An Option, as code_number: the caller says what a field that does not fit means.
-#[tactic(auto, unfolding(crate::specs::Given::kind_text))]
-fn kind_of(field: &[u8]) -> Option<Kind>
-    ensures { result ≡ kind_text field.now }
-{
-    match field {
-        b"signed" => Some(Kind::Signed),
-        b"graded" => Some(Kind::Graded),
-        _ => None,
+impl<'a> TryFrom<&'a [u8]> for Kind {
+    type Error = Unread;
+
+    ghost try_from_gives = { λ field r. r ≡ ok_or (kind_text field.now) NotUnderstood };
+
+    #[tactic(auto, unfolding(crate::specs::Given::kind_text))]
+    fn try_from(field: &'a [u8]) -> Result<Kind, Unread> {
+        match field {
+            b"signed" => Ok(Kind::Signed),
+            b"graded" => Ok(Kind::Graded),
+            _ => Err(Unread::NotUnderstood),
+        }
     }
 }
 
@@ -43,7 +48,7 @@ pub(crate) fn reading_fields(heap: Global, fields: Fields) -> Result<Given, Unre
     ensures { Reads given_as (reading_fields (left fields.entry)) result }
 {
     let (kind, code, bytes) = fields.three().ok_or(Unread::NotUnderstood)?;
-    let kind = kind_of(kind).ok_or(Unread::NotUnderstood)?;
+    let kind = Kind::try_from(kind)?;
     let code = code_number(code).ok_or(Unread::NotUnderstood)?;
     let bytes = hex_bytes(heap, bytes)?;
     Ok(Given { kind, code, bytes })

@@ -1,7 +1,7 @@
 use Rattle.std.proofs.Common.{codes, rules}
 use Rattle.std.proofs.lemmas.Slice.Eq.{text_from_reads}
 use Rattle.script.specs.Given.{kind_text}
-use Rattle.script.proofs.given.kind_of.Goals as goal
+use Rattle.script.proofs.given.KindTryFromRefSliceU8.try_from.Goals as goal
 
 pub returns-in-signed : goal.returns-in-signed
 unfolding kind_text
