@@ -1,4 +1,5 @@
 mod bursts;
+mod lines;
 mod sizes;
 
 use bch::{MESSAGE_WORDS, lay_number, number_of};
