@@ -4,17 +4,22 @@
 
 use bch::PLACES;
 use std::io;
-use std::io::{BufReader, BufWriter, ErrorKind, Read, Write};
+use std::io::{BufReader, BufWriter, Read, Write};
 use wire::{RECORD_BYTES, send_record};
 
 // The next record of the input, or `None` where no whole one is left.
+// By `read`: `read_exact` would try an interrupted read again, where every other failed read ends the program.
 fn next_record<R: Read>(input: &mut R) -> io::Result<Option<[u8; RECORD_BYTES]>> {
     let mut record = [0; RECORD_BYTES];
-    match input.read_exact(&mut record) {
-        Ok(()) => Ok(Some(record)),
-        Err(e) if e.kind() == ErrorKind::UnexpectedEof => Ok(None),
-        Err(e) => Err(e),
+    let mut at = 0;
+    while at < RECORD_BYTES {
+        let n = input.read(&mut record[at..])?;
+        if n == 0 {
+            return Ok(None);
+        }
+        at += n;
     }
+    Ok(Some(record))
 }
 
 // One record after the other, in constant memory. Nothing says that an input ends, so the records are counted.

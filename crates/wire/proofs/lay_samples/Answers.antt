@@ -1,8 +1,6 @@
-use Rattle.std.proofs.Common.{rules, false, arith}
+use Rattle.std.proofs.Common.{arith}
 use Rattle.wire.proofs.Sending.{all_samples}
 use Rattle.wire.proofs.lay_samples.Goals as goal
 
 pub returns : goal.returns
-returns c =
-    all_samples c.args.bits.now c.map.result (omega (arith, c.map.ensures.items.long))
-    (λ i h. let at = c.map.ensures.items.at i false 0 (omega arith) in search rules)
+returns c = all_samples c.args.bits.now c.loop-place.samples (omega arith) (λ i h. c.loop-place.invariant.1 i (omega arith))
