@@ -1,3 +1,2 @@
-pub mod Padding
 pub mod Reading
 pub mod Writing

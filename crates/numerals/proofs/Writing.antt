@@ -1,8 +1,10 @@
 -- What is written reads back. Assumes nothing.
-use Rattle.std.proofs.Common.{◌≡◌, ℕ, zero, suc, ◌+◌, ◌*◌, ◌/◌, ◌%◌, ◌^◌, ◌<◌, List, [], ◌∷◌, ◌++◌, length, get_or, take, reverse, set, Some, sym, ap, ap₂, ◌∙◌, append_assoc, append-nil, mod-lt, div-one, mod-eq_of_lt, mul_assoc, add-mul, zero-add, arith}
+use Rattle.std.proofs.Common.{rules, refl, ◌≤◌, ◌≡◌, ℕ, zero, suc, ◌+◌, ◌*◌, ◌/◌, ◌%◌, ◌^◌, ◌<◌, List, [], ◌∷◌, ◌++◌, length, get_or, take, reverse, set, Some, sym, ap, ap₂, ◌∙◌, append_assoc, append-nil, mod-lt, div-one, mod-eq_of_lt, mul_assoc, add-mul, zero-add, arith}
 use native.Mathlib.Nat.{pow-succ', div-div-eq-div-mul, mod-one, one-le-pow}
 use lib.Arith.{mod-mul}
-use Rattle.std.proofs.lemmas.List.{take_more, take_more_set, reverse-append}
+use Rattle.std.proofs.lemmas.List.{take_more, take_more_set, reverse-append, places}
+use Rattle.std.proofs.lemmas.Slice.{take-put_mid}
+use borrow.Rule.Slice.PartMut.{put_mid}
 use Rattle.std.proofs.lemmas.Bool.Decides.{nat_tests}
 use Rattle.numerals.specs.Numerals.{and_then, digit_in, upper_digit, numeral_after, hex_word, hex_text, bytes_text}
 
@@ -50,3 +52,28 @@ bytes_append (c ∷ bytes) b = ap (λ t. hex_text 2 c ++ t) (bytes_append bytes 
 pub byte_more : (bytes : List ℕ) (i : ℕ) → i < length bytes
     → bytes_text (take (i + 1) bytes) ≡ bytes_text (take i bytes) ++ hex_text 2 (get_or bytes i 0)
 byte_more bytes i h = ap bytes_text (take_more bytes i 0 h) ∙ bytes_append (take i bytes) (get_or bytes i 0)
+
+-- a part of a text written over
+pub over_long : (a k : ℕ) (xs ys : List ℕ) → a + k ≤ length xs → length ys ≡ k → length (put_mid a k xs ys) ≡ length xs
+over_long a k xs ys room count = search (rules, places)
+
+pub over_above : (a k : ℕ) (xs ys : List ℕ) → a + k ≤ length xs → length ys ≡ k → (j : ℕ) → a + k ≤ j → get_or (put_mid a k xs ys) j 0 ≡ get_or xs j 0
+over_above a k xs ys room count j h = search (rules, places)
+
+pub length_hex : (n x : ℕ) → length (hex_text n x) ≡ n
+unfolding hex_text
+length_hex zero x = refl
+length_hex (suc n) x = ap suc (length_hex n x)
+
+-- the digits of one more byte, written after those that stand below
+pub digits_more : (k : ℕ) (digits two bytes : List ℕ) (i : ℕ) → i < length bytes → 2 * i ≤ length digits → two ≡ hex_text 2 (get_or bytes i 0)
+    → take (2 * i) digits ≡ bytes_text (take i bytes) → take (2 * (i + 1)) (put_mid (2 * i) k digits two) ≡ bytes_text (take (i + 1) bytes)
+digits_more k digits two bytes i h room is below =
+    let count : length two ≡ 2 = ap length is ∙ length_hex 2 (get_or bytes i 0) in
+    take-put_mid (2 * i) k digits two (2 * (i + 1)) (omega (arith, count)) room ∙ ap₂ (λ t d. t ++ d) below is ∙ sym (byte_more bytes i h)
+
+-- the text of bytes that are written in parts
+pub parts_text : (done part : List ℕ) → bytes_text (done ++ part) ≡ bytes_text done ++ bytes_text part
+unfolding bytes_text
+parts_text [] part = refl
+parts_text (b ∷ done) part = ap (λ t. hex_text 2 b ++ t) (parts_text done part) ∙ sym (append_assoc (hex_text 2 b) (bytes_text done) (bytes_text part))

@@ -5,4 +5,4 @@ mod input;
 mod output;
 
 pub use input::{code_number, hex_bytes, hex_word};
-pub use output::{HexBytes, HexWord, hex_text};
+pub use output::{HexBytes, HexWord, as_text, hex_text};

@@ -4,13 +4,32 @@ ghost use Rattle.printing.specs.Texts.{printed};
 
 use std::alloc::AllocError;
 use std::fmt;
+use std::fmt::Formatter;
 
-// Puts a text and a newline after `out`, on the heap that `out` is on.
-// Not write!: to a Vec its error is an io::Error, and the error here is of memory alone. A String would ask more of the callers of Session.
+// Bytes that text is put after. A writer of our own, since std's for a Vec tries and tests each piece of a line as a file's would.
+struct After<'a> {
+    bytes: &'a mut Vec<u8>,
+}
+
+impl fmt::Write for After<'_> {
+    ghost write_str_gives = { λ s text t. (t.bytes.ghost_name ≡ s.bytes.ghost_name)
+        × (t.bytes.now.items ≡ s.bytes.now.items ++ text) };
+
+    fn write_str(&mut self, text: &str) -> fmt::Result {
+        Ok(self.bytes.extend_from_slice(text.as_bytes())?)
+    }
+}
+
+// Puts a text and a newline after `out`, with no text of its own between.
 // The clause is written out, as in the two of `session` that put a line: what is put differs, and a word for ++ would be no plainer.
 pub fn put_line<T: fmt::Display>(line: &T, out: &mut Vec<u8>) -> Result<(), AllocError>
     ensures { IfSome (T.output line.now) (λ text. OnOk result (out.new.items ≡ out.old.items ++ printed text)) }
 {
-    let text = format!(in *out.allocator(); "{line}\n")?;
-    out.extend_from_slice(text.as_bytes())
+    let mut f = Formatter::new(After { bytes: out });
+    let result = f.write(line);
+    let After { bytes } = f.into_inner();
+    match result {
+        Ok(()) => Ok(bytes.push(b'\n')?),
+        Err(fmt::Error) => Err(AllocError),
+    }
 }
