@@ -8,7 +8,6 @@ ghost use Rattle.std.proofs.Common.{rules};
 
 use crate::strength::Strength;
 use order::Ordered;
-use std::cmp::Ordering;
 
 // How well a place was received, the weakest first.
 #[derive(Clone, Copy, Debug, PartialEq, Eq, PartialOrd, Ord)]
@@ -82,12 +81,11 @@ impl Ordered for Grade {
     ghost transitive = { Prim.search rules };
 
     // By hand: a derived order would tell lost places apart by their levels, and they are all equal in strength.
+    // The classes by their numbers: with their derived `cmp` a weak list takes half as many instructions again.
     fn is_at_most(&self, other: &Grade) -> bool {
-        match self.class.cmp(&other.class) {
-            Ordering::Less => true,
-            Ordering::Equal => self.class == Class::Lost || self.level <= other.level,
-            Ordering::Greater => false,
-        }
+        let mine = u8::from(self.class);
+        let its = u8::from(other.class);
+        mine < its || (mine == its && (self.class == Class::Lost || self.level <= other.level))
     }
 }
 

@@ -1,5 +1,6 @@
 pub mod Turns
 pub mod Weakest
+pub mod Held
 pub mod Lists
 pub mod InTurns
 pub mod Ties

@@ -9,9 +9,8 @@ use Rattle.order.specs.declared.ordered.Ordered as ordered
 use Rattle.order.specs.declared.kept.Kept.{Kept}
 use Rattle.readings.specs.Burst.{Burst}
 use Rattle.weak.specs.declared.place.WeakPlace.{WeakPlace}
-use Rattle.weak.specs.declared.list.Places.{Places}
-use Rattle.weak.specs.declared.list.Places.TheVariants.{Four, Six}
 use Rattle.weak.specs.declared.list.WeakList.{WeakList}
+pub use Rattle.weak.specs.Held.{held}
 use Rattle.weak.specs.Weakest.{Weakest}
 
 -- a place with its strength
@@ -26,11 +25,6 @@ KeepsWeakest b strengths kept = (list : List ℕ) × Weakest slot_count b list �
 abbrev pub place_in : {S : Type 0} → Option (WeakPlace S) → ℕ
 place_in None = 0
 place_in (Some weak) = weak.place
-
--- the places that are held, of one code or the other
-abbrev pub held : Places → List ℕ
-held (Four places) = places
-held (Six places) = places
 
 -- the places of a weak list
 unfoldable pub listed : WeakList → List ℕ
