@@ -1,8 +1,9 @@
 -- What one more digit does to the number that is read, and one more byte to the bytes. Assumes nothing.
-use Rattle.std.proofs.Common.{◌≡◌, ◌≢◌, ℕ, suc, min, ◌+◌, ◌*◌, ◌^◌, ◌<◌, ◌≤◌, List, [], ◌∷◌, ◌++◌, length, get_or, drop, Some, None, Option, sym, refl, true, cond, ap, ◌∙◌, append_assoc, append-nil, mul-le-mul_left, mul-le-mul_right, add-mul, pow-suc, mul_assoc, arith}
+use Rattle.std.proofs.Common.{◌≡◌, ℕ, zero, suc, ◌+◌, ◌*◌, ◌/◌, ◌^◌, ◌<◌, ◌≤◌, List, [], ◌∷◌, ◌++◌, length, get_or, drop, Some, None, Option, sym, refl, true, cond, ap, ap₂, ◌∙◌, append_assoc, append-nil, mul-le-mul_left, mul-le-mul_right, add-mul, pow-suc, mul_assoc, mul-suc, arith}
 use native.Mathlib.Nat.{pow-zero, pow-le-pow_right}
 use Rattle.std.specs.Option.{option_map}
-use Rattle.std.proofs.lemmas.List.{at_drop_more, at_drop_all}
+use Rattle.std.proofs.lemmas.List.{at_drop_more, at_drop_all, length-drop, drop-drop, get_or-take}
+use Rattle.std.specs.Simd.{first_chunks}
 use Rattle.std.proofs.lemmas.Bool.{cond_both, cond-true, cond-false}
 use Rattle.std.proofs.lemmas.Bool.Decides.{nat_tests}
 use Rattle.std.proofs.lemmas.Option.{same_Some}
@@ -108,30 +109,62 @@ pub moved : (xs : List ℕ) (w : ℕ) (o : Option (List ℕ))
 moved xs w None = refl
 moved xs w (Some ws) = ap Some (append_assoc xs (w ∷ []) ws)
 
+-- what follows the pairs before the next: the same counted from the front or the back
+after_first : (i : ℕ) (bs : List ℕ) → drop (2 * i) (drop 2 bs) ≡ drop (2 * suc i) bs
+after_first i bs = drop-drop (2 * i) 2 bs ∙ ap (λ m. drop m bs) (omega (arith, mul-suc 2 i))
+
+after_next : (i : ℕ) (bs : List ℕ) → drop 2 (drop (2 * i) bs) ≡ drop (2 * (i + 1)) bs
+after_next i bs = drop-drop 2 (2 * i) bs ∙ ap (λ m. drop m bs) (omega arith)
+
+two_left : (i : ℕ) (bs : List ℕ) → i < length bs / 2 → 2 ≤ length (drop (2 * i) bs)
+two_left i bs h = omega (arith, length-drop (2 * i) bs)
+
+-- the digits of pair i, of the first k pairs
+pair_at : (k i j : ℕ) (bs : List ℕ) → i < k → j < 2 → get_or (get_or (first_chunks 2 k bs) i []) j 0 ≡ get_or (drop (2 * i) bs) j 0
+pair_at zero i j bs h l = absurd (omega arith)
+pair_at (suc k) zero j bs h l = get_or-take 2 bs j 0 l
+pair_at (suc k) (suc i) j bs h l = pair_at k i j (drop 2 bs) (omega arith) l ∙ ap (λ left. get_or left j 0) (after_first i bs)
+
+-- what pair i says is what the first two digits that are left say
+pair_says : (o : Option ℕ) (pairs : List (List ℕ)) (i : ℕ) (bs : List ℕ) → pairs ≡ first_chunks 2 (length bs / 2) bs → i < length bs / 2
+    → o ≡ hex_byte (get_or (get_or pairs i []) 0 0) (get_or (get_or pairs i []) 1 0)
+    → o ≡ hex_byte (get_or (drop (2 * i) bs) 0 0) (get_or (drop (2 * i) bs) 1 0)
+pair_says o pairs i bs is h e =
+    let digit : (j : ℕ) → j < 2 → get_or (get_or pairs i []) j 0 ≡ get_or (drop (2 * i) bs) j 0 =
+    λ j l. ap (λ ps. get_or (get_or ps i []) j 0) is ∙ pair_at (length bs / 2) i j bs h l in
+    e ∙ ap₂ hex_byte (digit 0 (omega arith)) (digit 1 (omega arith))
+
 -- one more pair of digits is one more byte
-pub one_byte : (xs ys left pair after : List ℕ) (b : ℕ) → left ≡ pair ++ after → length pair ≡ 2 → Some b ≡ hex_byte (get_or pair 0 0) (get_or pair 1 0)
-    → ys ≡ xs ++ b ∷ [] → option_map (λ bs. ys ++ bs) (hex_pairs after) ≡ option_map (λ bs. xs ++ bs) (hex_pairs left)
+pub one_byte : (xs ys left : List ℕ) (b : ℕ) → 2 ≤ length left → Some b ≡ hex_byte (get_or left 0 0) (get_or left 1 0) → ys ≡ xs ++ b ∷ []
+    → option_map (λ bs. ys ++ bs) (hex_pairs (drop 2 left)) ≡ option_map (λ bs. xs ++ bs) (hex_pairs left)
 unfolding hex_pairs
-one_byte xs ys left [] after b is h e p = absurd (omega arith)
-one_byte xs ys left (c ∷ []) after b is h e p = absurd (omega arith)
-one_byte xs ys left (c ∷ d ∷ []) after b is h e p = rw (p, is, ← e) (moved xs b (hex_pairs after))
-one_byte xs ys left (c ∷ d ∷ f ∷ pair) after b is h e p = absurd (omega arith)
+one_byte xs ys [] b h e p = absurd (omega arith)
+one_byte xs ys (c ∷ []) b h e p = absurd (omega arith)
+one_byte xs ys (c ∷ d ∷ left) b h e p = rw (p, ← e) (moved xs b (hex_pairs left))
 
-pub no_byte : (left pair after : List ℕ) → left ≡ pair ++ after → length pair ≡ 2 → None ≡ hex_byte (get_or pair 0 0) (get_or pair 1 0)
-    → hex_pairs left ≡ None
+pub no_byte : (left : List ℕ) → 2 ≤ length left → None ≡ hex_byte (get_or left 0 0) (get_or left 1 0) → hex_pairs left ≡ None
 unfolding hex_pairs
-no_byte left [] after is h e = absurd (omega arith)
-no_byte left (c ∷ []) after is h e = absurd (omega arith)
-no_byte left (c ∷ d ∷ []) after is h e = rw (is, ← e)
-no_byte left (c ∷ d ∷ f ∷ pair) after is h e = absurd (omega arith)
+no_byte [] h e = absurd (omega arith)
+no_byte (c ∷ []) h e = refl
+no_byte (c ∷ d ∷ left) h e = rw (← e)
 
--- a chunk of one digit is the last, and lacks its second
-pub odd_digit : (left pair after : List ℕ) → left ≡ pair ++ after → length pair ≡ min 2 (length left) → length pair ≢ 2 → 0 < length left
-    → hex_pairs left ≡ None
+-- the same of pair i
+pub one_pair : (xs ys : List ℕ) (b : ℕ) (pairs : List (List ℕ)) (i : ℕ) (bs : List ℕ) → pairs ≡ first_chunks 2 (length bs / 2) bs → i < length bs / 2
+    → Some b ≡ hex_byte (get_or (get_or pairs i []) 0 0) (get_or (get_or pairs i []) 1 0) → ys ≡ xs ++ b ∷ []
+    → option_map (λ bs. ys ++ bs) (hex_pairs (drop (2 * (i + 1)) bs)) ≡ option_map (λ bs. xs ++ bs) (hex_pairs (drop (2 * i) bs))
+one_pair xs ys b pairs i bs is h e p =
+    ap (λ left. option_map (λ bs. ys ++ bs) (hex_pairs left)) (sym (after_next i bs))
+    ∙ one_byte xs ys (drop (2 * i) bs) b (two_left i bs h) (pair_says (Some b) pairs i bs is h e) p
+
+pub no_pair : (pairs : List (List ℕ)) (i : ℕ) (bs : List ℕ) → pairs ≡ first_chunks 2 (length bs / 2) bs → i < length bs / 2
+    → None ≡ hex_byte (get_or (get_or pairs i []) 0 0) (get_or (get_or pairs i []) 1 0) → hex_pairs (drop (2 * i) bs) ≡ None
+no_pair pairs i bs is h e = no_byte (drop (2 * i) bs) (two_left i bs h) (pair_says None pairs i bs is h e)
+
+pub odd_digit_left : (left : List ℕ) → 0 < length left → length left < 2 → hex_pairs left ≡ None
 unfolding hex_pairs
-odd_digit [] pair after is h n l = absurd (omega arith)
-odd_digit (c ∷ []) pair after is h n l = refl
-odd_digit (c ∷ d ∷ left) pair after is h n l = absurd (omega arith)
+odd_digit_left [] h l = absurd (omega arith)
+odd_digit_left (c ∷ []) h l = refl
+odd_digit_left (c ∷ d ∷ left) h l = absurd (omega arith)
 
 pub no_bytes_left : (xs left : List ℕ) → length left ≡ 0 → option_map (λ bs. xs ++ bs) (hex_pairs left) ≡ Some xs
 unfolding hex_pairs

@@ -8,7 +8,7 @@ ghost use Rattle.script.specs.Seen.{says, line_says};
 use crate::given::{Given, reading_fields};
 use line_fields::{Fields, Unread, field_is};
 use numerals::code_number;
-use script_text::call_fields;
+use script_text::{call_fields, named_call};
 use std::alloc::Global;
 
 // What a line of a script asks for.
@@ -46,16 +46,15 @@ fn codeword_row(heap: Global, fields: Fields) -> Result<Call, Unread>
 
 // A call by its fields, the first of which is its name.
 #[tactic(auto, using(crate::proofs::Rows::codeword_name, crate::proofs::Rows::other_name))]
-fn read_call(heap: Global, fields: Fields) -> Result<Call, Unread>
+fn read_call(heap: Global, mut fields: Fields) -> Result<Call, Unread>
     ensures { ReadsAs not_understood says (call (left fields.entry)) result }
 {
-    let mut rest = fields;
-    let name = rest.next().ok_or(Unread::NotUnderstood)?;
+    let name = fields.next().ok_or(Unread::NotUnderstood)?;
     // A test and no pattern: where another call reads the name again, a proof needs one fact, and after a pattern it has one for each byte.
     if field_is(name, b"codeword") {
-        codeword_row(heap, rest)
+        codeword_row(heap, fields)
     } else {
-        Ok(Call::Other(script_text::read_call(heap, fields)?))
+        Ok(Call::Other(named_call(heap, name, fields)?))
     }
 }
 

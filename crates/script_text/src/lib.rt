@@ -3,4 +3,4 @@
 
 mod lines;
 
-pub use lines::{Call, call_fields, parse, read_call};
+pub use lines::{Call, call_fields, named_call, parse, read_call};

@@ -3,7 +3,7 @@ ghost use Rattle.std.specs.Prelude.{◌≡◌, vec_items};
 ghost use Rattle.std.specs.Option.{option_map};
 ghost use Rattle.line_fields.specs.Left.{left};
 ghost use Rattle.line_fields.specs.Reads.{ReadsAs, Reads};
-ghost use Rattle.script_text.specs.Lines.{not_understood, hex_words, encode_row, call, call_text, quiet, meaning};
+ghost use Rattle.script_text.specs.Lines.{not_understood, hex_words, encode_row, call_row, call, call_text, quiet, meaning};
 ghost use Rattle.script_text.specs.Seen.{says, line_says};
 
 use line_fields::{Fields, Unread, without_return};
@@ -46,16 +46,24 @@ fn encode_row(heap: Global, mut fields: Fields) -> Result<Call, Unread>
     Ok(Call::Encode { code, words })
 }
 
-// A call by its fields, the first of which is its name.
+// A call by its name and the fields after it.
 #[tactic(auto, using(std::proofs::lemmas::Slice::Eq::text_from_reads), unfolding(crate::specs::Lines::call_row, crate::specs::Lines::bare_row))]
+pub fn named_call(heap: Global, name: &[u8], mut fields: Fields) -> Result<Call, Unread>
+    ensures { ReadsAs not_understood says (call_row name.now (left fields.entry)) result }
+{
+    match name {
+        b"encode" => encode_row(heap, fields),
+        b"take" if fields.next().is_none() => Ok(Call::Take),
+        _ => Err(Unread::NotUnderstood),
+    }
+}
+
+// A call by its fields, the first of which is its name.
 pub fn read_call(heap: Global, mut fields: Fields) -> Result<Call, Unread>
     ensures { ReadsAs not_understood says (call (left fields.entry)) result }
 {
-    match fields.next() {
-        Some(b"encode") => encode_row(heap, fields),
-        Some(b"take") if fields.next().is_none() => Ok(Call::Take),
-        _ => Err(Unread::NotUnderstood),
-    }
+    let name = fields.next().ok_or(Unread::NotUnderstood)?;
+    named_call(heap, name, fields)
 }
 
 // Whether a text is empty or a comment.

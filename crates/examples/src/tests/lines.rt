@@ -3,7 +3,7 @@ use bch::PLACES;
 use line_fields::{Fields, Unread};
 use printing::{Answer, put_line};
 use refusals::Refusal;
-use script_text::{Call, read_call};
+use script_text::{Call, named_call, read_call};
 use std::test::Fail;
 
 #[test]
@@ -41,5 +41,19 @@ fn calls_are_read_by_their_fields(rt: HostRuntime) -> Result<(), Fail> {
     assert!(rt; words.as_slice() == [0x40000001, 0xA].as_slice());
     let missing = read_call(rt.alloc(), Fields::new(b"encode"));
     assert!(rt; matches!(missing, Err(Unread::NotUnderstood)));
+    Ok(())
+}
+
+#[test]
+fn calls_are_read_by_their_name_and_fields(rt: HostRuntime) -> Result<(), Fail> {
+    let read = named_call(rt.alloc(), b"encode", Fields::new(b"3 1 40000001"))?;
+    let Call::Encode { code, words } = read else {
+        assert!(rt; false, "an encode call has words");
+        return Ok(());
+    };
+    assert_eq!(rt; code, 3);
+    assert!(rt; words.as_slice() == [0x1, 0x40000001].as_slice());
+    let more = named_call(rt.alloc(), b"take", Fields::new(b"2"));
+    assert!(rt; matches!(more, Err(Unread::NotUnderstood)));
     Ok(())
 }
