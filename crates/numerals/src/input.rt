@@ -11,44 +11,35 @@ const MAX_HEX_DIGITS: usize = 8;
 const MAX_CODE_DIGITS: usize = 10;
 
 // The value of a hex digit of either case.
-// By ranges: char::to_digit also tells what lies between them, up to z, and letters then take a quarter longer to read.
-fn hex_digit(b: u8) -> Option<u8>
+fn hex_digit(b: u8) -> Option<u32>
     ensures { result ≡ hex_digit b }
 {
-    match b {
-        b'0'..=b'9' => Some(b - b'0'),
-        b'A'..=b'F' => Some(b - b'A' + 10),
-        b'a'..=b'f' => Some(b - b'a' + 10),
-        _ => None,
-    }
+    char::from(b).to_digit(16)
 }
 
 // The value of a digit in a base up to 16.
-// What is no hex digit counts as the base, which is no digit of it: one test for both.
-fn digit_in(base: u8, b: u8) -> Option<u8>
+// Not to_digit(base), which requires a base of 2 to 36.
+fn digit_in(base: u32, b: u8) -> Option<u32>
     ensures { result ≡ digit_in base b }
 {
-    let d = hex_digit(b).unwrap_or(base);
-    if d < base { Some(d) } else { None }
+    hex_digit(b).filter(|d| *d < base)
 }
 
 // The number that digits write, high digit first, if it is below 2^32.
 // Not u32::from_str_radix: it takes text and not bytes, and a + before the digits.
 #[tactic(auto, using(crate::proofs::Reading::digit_steps))]
-fn number(base: u8, field: &[u8]) -> Option<u32>
+fn number(base: u32, field: &[u8]) -> Option<u32>
     ensures { result ≡ and_then (numeral base field.now) (below (2 ^ 32)) }
 {
     let mut n = 0u32;
     for b in field {
-        n = n
-            .checked_mul(u32::from(base))?
-            .checked_add(u32::from(digit_in(base, *b)?))?;
+        n = n.checked_mul(base)?.checked_add(digit_in(base, *b)?)?;
     }
     Some(n)
 }
 
 // The same of one to `most` digits.
-fn short_number(base: u8, most: usize, field: &[u8]) -> Option<u32>
+fn short_number(base: u32, most: usize, field: &[u8]) -> Option<u32>
     ensures { result ≡ short_numeral base most field.now }
 {
     if field.is_empty() || field.len() > most {
@@ -80,7 +71,7 @@ fn hex_byte(high: u8, low: u8) -> Option<u8>
 {
     let h = hex_digit(high)?;
     let l = hex_digit(low)?;
-    Some(h * 16 + l)
+    Some((h * 16 + l) as u8)
 }
 
 // Hex digits as bytes, two digits a byte.
