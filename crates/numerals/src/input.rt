@@ -84,7 +84,7 @@ fn hex_pairs(heap: Global, digits: &[u8]) -> Result<Vec<u8>, Unread>
     for [high, low] in pairs {
         bytes.push(hex_byte(*high, *low).ok_or(Unread::NotUnderstood)?)?;
     }
-    // After the pairs: what is wrong with them is told first.
+    // After the pairs: want of memory for their bytes is told first.
     if !odd.is_empty() {
         return Err(Unread::NotUnderstood);
     }

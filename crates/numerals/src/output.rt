@@ -5,7 +5,7 @@ ghost use Rattle.numerals.specs.Numerals.{hex_word, upper_digit, hex_text, bytes
 
 use std::fmt;
 
-// How many bytes are turned into digits at once: those of a word.
+// How many bytes are turned into digits at once: as many as a packed word of 255 places has.
 const RUN: usize = 32;
 
 // The upper-case hex digit of the lowest four bits.

@@ -50,7 +50,7 @@ fn read_call(heap: Global, mut fields: Fields) -> Result<Call, Unread>
     ensures { ReadsAs not_understood says (call (left fields.entry)) result }
 {
     let name = fields.next().ok_or(Unread::NotUnderstood)?;
-    // A test and no pattern: where another call reads the name again, a proof needs one fact, and after a pattern it has one for each byte.
+    // A test and no pattern: where `named_call` tests the name again, a proof needs one fact, and after a pattern it has one for each byte.
     if field_is(name, b"codeword") {
         codeword_row(heap, fields)
     } else {

@@ -34,7 +34,8 @@ fn sample_of(bit: bool) -> u8
     if bit { 0x7F } else { 0x81 }
 }
 
-// Each place as a sample, into the caller's memory. Not `bits.map(sample_of)`, which goes over the places three times.
+// Each place as a sample, into the caller's memory. Not `bits.map(sample_of)`, which goes over the places three times; nor a zip, since
+// after an adapter of `iter_mut` a proof knows nothing of what was written.
 pub fn lay_samples(bits: &[bool; PLACES], samples: &mut [u8; PLACES])
     ensures { samples.new ≡ map sample bits.now }
 {
