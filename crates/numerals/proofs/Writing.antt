@@ -1,4 +1,4 @@
--- What is written reads back. Assumes nothing.
+-- What is written reads back, and what stands written after one more digit, byte or part. Assumes nothing.
 use Rattle.std.proofs.Common.{rules, refl, ◌≤◌, ◌≡◌, ℕ, zero, suc, ◌+◌, ◌*◌, ◌/◌, ◌%◌, ◌^◌, ◌<◌, List, [], ◌∷◌, ◌++◌, length, get_or, take, reverse, set, Some, sym, ap, ap₂, ◌∙◌, append_assoc, append-nil, mod-lt, div-one, mod-eq_of_lt, mul_assoc, add-mul, zero-add, arith}
 use native.Mathlib.Nat.{pow-succ', div-div-eq-div-mul, mod-one, one-le-pow}
 use lib.Arith.{mod-mul}

@@ -6,7 +6,7 @@ use std::alloc::AllocError;
 use std::fmt;
 use std::fmt::Formatter;
 
-// Room for the longest line that `stocktake` prints: three numbers of twenty digits, and the words between them.
+// The bytes of the longest line that `stocktake` prints: three numbers of twenty digits, and the words between them.
 const LINE_ROOM: usize = 88;
 
 // Bytes that text is put after. A writer of our own: std's for a Vec goes through `write_all`, which costs more for each piece of a line.
@@ -23,7 +23,7 @@ impl fmt::Write for After<'_> {
     }
 }
 
-// Puts a text and a newline after `out`, with no String between. The room is made at once, so a line wants memory once at most.
+// Puts a text and a newline after `out`, with no String between. Room for a line is made first, so one that fits it wants memory once at most.
 // The clause is written out, as in the two of `session` that put a line: what is put differs, and a word for ++ would be no plainer.
 pub fn put_line<T: fmt::Display>(line: &T, out: &mut Vec<u8>) -> Result<(), AllocError>
     ensures { IfSome (T.output line.now) (λ text. OnOk result (out.new.items ≡ out.old.items ++ printed text)) }

@@ -1,6 +1,6 @@
 -- What the loops of sending keep, and each way out of it. Assumes nothing.
-use Rattle.std.proofs.Common.{◌≡◌, ℕ, zero, suc, ◌+◌, ◌*◌, ◌<◌, Bool, false, List, map, take, drop, w32, length, get_or, Ok, Err, sym, refl, ap, ◌∙◌, inl, inr, add-zero, add-suc, suc-add, zero-add, arith}
-use Rattle.std.proofs.lemmas.List.{ext_get_or, get_or-map, get_or-take, get_or-drop, length-map}
+use Rattle.std.proofs.Common.{◌≡◌, ℕ, zero, suc, ◌+◌, ◌*◌, ◌<◌, List, map, take, drop, w32, length, get_or, Ok, Err, sym, refl, ap, ◌∙◌, inl, inr, add-zero, add-suc, suc-add, zero-add, arith}
+use Rattle.std.proofs.lemmas.List.{ext_get_or, get_or-take, get_or-drop}
 use Rattle.std.specs.Int.{from_be_bytes}
 use Rattle.refusals.specs.declared.refusal.Refusal.{Refusal}
 use Rattle.refusals.specs.Refusals.{Fits, Refused, returned, row}
@@ -10,11 +10,6 @@ use Rattle.codes.specs.declared.word.Word.{Word}
 use Rattle.codes.specs.Calls.{encode_causes, Encoded}
 use Rattle.codes.proofs.Inverse.{code_injective}
 use Rattle.wire.specs.Bytes.{word_bytes, record_word, words_from, record_words, sample, Sends}
-
-pub all_samples : (w : List Bool) (s : List ℕ) → length s ≡ length w → ((i : ℕ) → i < length w → get_or s i 0 ≡ sample (get_or w i false)) → s ≡ map sample w
-all_samples w s l at =
-    ext_get_or 0 s (map sample w) (l ∙ sym (length-map w sample))
-    (λ i h. let hi : i < length w = omega arith in at i hi ∙ sym (get_or-map sample w i false 0 hi))
 
 length_words : (n i : ℕ) (bytes : List ℕ) → length (words_from n i bytes) ≡ n
 length_words zero i bytes = refl
